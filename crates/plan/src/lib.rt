@@ -1,0 +1,10 @@
+// Plans: a tree of terms, the pairs of terms to separate, and a budget; read from packed files.
+mod bits;
+mod fault;
+mod fresh;
+mod reading;
+mod shape;
+
+pub use fault::BitsFault;
+pub use fault::PlanFault;
+pub use shape::Plan;
