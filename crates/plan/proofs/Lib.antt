@@ -1,6 +1,11 @@
 pub mod Blank
+pub mod Climbs
 pub mod Fields
+pub mod Members
 pub mod Places
 pub mod Refusals
+pub mod Roads
 pub mod Rows
+pub mod Shared
+pub mod Ways
 pub mod Widths

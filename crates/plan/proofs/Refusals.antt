@@ -23,5 +23,5 @@ pair-refused bs a b c n m f e₀ e₁ e₂ (head, nn, mm) long tree (q, is, smal
       ((head, whole), subst (λ k. TreeBelow a k k) nn (subst (λ x. TreeBelow x n n) e₁ tree)),
       subst (λ k. q < k) mm small,
       subst (λ k. PairsBelow a k q) nn (subst (λ x. PairsBelow x n q) (e₂ ∙ e₁) below),
-      λ fine. wrong (subst (λ x. Ordered n (endsIn x n q)) (sym (e₂ ∙ e₁)) (subst (λ k. Ordered k (endsIn a k q)) (sym nn) fine))
+      λ fine. wrong (subst (λ x. Ordered n (endsIn x n q)) (sym (e₂ ∙ e₁)) (subst (λ k. Ordered k (endsIn a k q)) (sym nn) fine)),
     ))

@@ -39,9 +39,9 @@ module _ {X : Type 0} (f : ℕ → X) (d : X) (low : ℕ) where
       record {
         long = length-set xs i v ∙ w .long;
         here = λ u l h. ⊎-elim
-          (λ e. subst (λ (k : ℕ). getD (set xs i v) k d ≡ f k) (sym e) (getD-set-same xs i v d (omega (arith, w .long)) ∙ is))
-          (λ ne. other u ne ∙ w .here u l (omega (arith, ne)))
-          (cases-eq u i);
+            (λ e. subst (λ (k : ℕ). getD (set xs i v) k d ≡ f k) (sym e) (getD-set-same xs i v d (omega (arith, w .long)) ∙ is))
+            (λ ne. other u ne ∙ w .here u l (omega (arith, ne)))
+            (cases-eq u i);
         past = λ u l. other u (λ e. omega arith) ∙ w .past u (omega arith);
         before = λ u l. other u (λ e. omega arith) ∙ w .before u l;
       }

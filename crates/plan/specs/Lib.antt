@@ -2,3 +2,4 @@ pub mod Bits
 pub mod Layout
 pub mod Plans
 pub mod Shape
+pub mod Tree

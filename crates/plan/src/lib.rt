@@ -4,6 +4,7 @@ mod fault;
 mod fresh;
 mod reading;
 mod shape;
+mod tree;
 
 pub use fault::BitsFault;
 pub use fault::PlanFault;

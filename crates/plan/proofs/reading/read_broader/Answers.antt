@@ -33,8 +33,9 @@ loop-t-again c =
     let bytes = i .0 in
     let place = i .1 in
     let e : v ≡ broaderIn bs n t = cc in
-    let less : broaderIn bs n t < t = omega (arith, e) in
-    (h .same ∙ i .0,
-     omega (arith, h .value .1, i .1, broader-next n t (omega arith)),
-     written-more (broaderIn bs n) 0 1 t (c .loop-t .broader) v (i .2) (omega arith) (omega arith) e,
-     tree-more bs n t (i .3) less)
+    let less : broaderIn bs n t < t = omega (arith, e) in (
+      h .same ∙ i .0,
+      omega (arith, h .value .1, i .1, broader-next n t (omega arith)),
+      written-more (broaderIn bs n) 0 1 t (c .loop-t .broader) v (i .2) (omega arith) (omega arith) e,
+      tree-more bs n t (i .3) less,
+    )
