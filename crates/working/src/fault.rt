@@ -1,0 +1,15 @@
+// Why a working refuses a step, each refusal with its place.
+
+#[derive(Clone, Copy, PartialEq, Eq, Debug)]
+pub enum WorkingFault {
+    // the working has ended
+    Ended,
+    // a link that is not live; the link
+    NotLive(u16),
+    // a pair that is not open; the pair
+    NotOpen(u16),
+    // the step would cut, and nothing is left; the link
+    NothingLeft(u16),
+    // the step's rule does not hold; the step's first number
+    RuleFails(u16),
+}

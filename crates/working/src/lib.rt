@@ -1,0 +1,14 @@
+// Workings: an editor's steps over any road-book, and the rest that they leave.
+mod fault;
+mod rest;
+mod step;
+mod tally;
+mod working;
+
+pub use fault::WorkingFault;
+pub use rest::WorkingRest;
+pub use step::Step;
+pub use tally::LinkMark;
+pub use tally::State;
+pub use tally::Tally;
+pub use working::Working;
