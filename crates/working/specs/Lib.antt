@@ -1,2 +1,4 @@
+pub mod Judging
 pub mod Lawful
+pub mod Marking
 pub mod Rest

@@ -2,6 +2,7 @@
 mod fault;
 mod rest;
 mod step;
+mod steps;
 mod tally;
 mod working;
 

@@ -1,0 +1,16 @@
+pub mod Counting
+pub mod Remaining
+pub mod Bound
+pub mod Sparing
+pub mod Welding
+pub mod Cutting
+pub mod Dropping
+pub mod Deciding
+pub mod RuleTests
+pub mod Searching
+pub mod CommonFactor
+pub mod LeastCut
+pub mod Composing
+pub mod Stepping
+pub mod Running
+pub mod Mistaken

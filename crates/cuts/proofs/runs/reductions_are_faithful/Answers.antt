@@ -1,0 +1,5 @@
+use Rattle.cuts.proofs.Running.{reductions-are-faithful}
+use Rattle.cuts.proofs.runs.reductions_are_faithful.Needs as need
+
+pub returns : need.returns
+returns c = reductions-are-faithful

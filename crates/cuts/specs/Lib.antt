@@ -1,0 +1,11 @@
+pub mod Links
+pub mod Instances
+pub mod After
+pub mod Rules
+pub mod Tests
+pub mod Search
+pub mod Reduces
+pub mod Steps
+pub mod Runs
+pub mod Mistakes
+pub mod Promises
