@@ -1,10 +1,11 @@
 -- Reductions in a row.
+--     union-assoc           three sets together, whichever two go first
 --     same-reduces          an instance reduces to itself
 --     reductions-compose    two reductions in a row are one, and the links that they cut add up
-use Prim.Native.Nat.{ℕ, _+_, _≤_}
-use mathlib.Core.Bool.{Bool, true, false, _||_}
+use Prim.Native.Nat.{ℕ, _+_}
+use mathlib.Core.Bool.{or-assoc}
 use mathlib.Core.Logic.{⊎-elim}
-use mathlib.Core.Path.{_≡_, refl, ap, fun-ext, subst, _∙_}
+use mathlib.Core.Path.{_≡_, refl, ap, fun-ext, subst, sym, _∙_}
 use native.Mathlib.Omega.{arith}
 use Rattle.std.proofs.shelf.Tests.{cases-bool, false≢true, or-cases}
 use Rattle.cuts.proofs.Counting.{count-apart, count-empty}
@@ -12,12 +13,8 @@ use Rattle.cuts.specs.Instances.{Instance, Sound, CutWithin, size}
 use Rattle.cuts.specs.Links.{Links, In, Outside, count, none, union}
 use Rattle.cuts.specs.Reduces.{Reduces}
 
-or-assoc : (x y z : Bool) → (x || (y || z)) ≡ ((x || y) || z)
-or-assoc true y z = refl
-or-assoc false y z = refl
-
 pub union-assoc : (s t u : Links) → union s (union t u) ≡ union (union s t) u
-union-assoc s t u = fun-ext (λ x. or-assoc (s x) (t x) (u x))
+union-assoc s t u = fun-ext (λ x. sym (or-assoc (s x) (t x) (u x)))
 
 pub same-reduces : (i : Instance) → Sound i → (b : ℕ) → Reduces i b i b none
 same-reduces i ok b =

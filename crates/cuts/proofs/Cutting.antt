@@ -2,21 +2,20 @@
 --     cut-reduces                a cut of l reduces if l is in every cut within the budget
 --     unit-road-reduces          the only link on a road is in every cut
 --     overloaded-link-reduces    so is a link that more pairs share than the budget could part without it
-use Prim.Native.Nat.{ℕ, _+_, _-_, _≤_}
-use mathlib.Core.Bool.{true, false}
+use Prim.Native.Nat.{ℕ, _-_, _≤_}
+use mathlib.Core.Bool.{true}
 use mathlib.Core.List.{List}
 use mathlib.Core.Logic.{_≢_, ⊎-elim}
 use mathlib.Core.Path.{_≡_, refl, ap, sym, _∙_}
 use native.Mathlib.Omega.{arith}
 use lib.Dec.{eqb}
-use lib.ListN.{length}
 use Rattle.std.proofs.shelf.Tests.{both-ways, cases-bool, eq-eqb, eqb-true, not-false, not-true, or-left}
 use Rattle.cuts.proofs.Bound.{open-bound}
 use Rattle.cuts.proofs.Counting.{count-less, count-one, count-union, less-from, less-in, less-other}
 use Rattle.cuts.proofs.Remaining.{back-cut, butFor-from, live-in, live-stays, onward-cut, remain-roads, remain-sound}
 use Rattle.cuts.specs.After.{butFor, offRoad, cutLink}
 use Rattle.cuts.specs.Instances.{Instance, Live, On, Sound, CutWithin, size}
-use Rattle.cuts.specs.Links.{Links, In, less, one, union}
+use Rattle.cuts.specs.Links.{Links, In, less, one}
 use Rattle.cuts.specs.Reduces.{Reduces}
 use Rattle.cuts.specs.Rules.{UnitRoad, OverloadedLink, IsLink}
 

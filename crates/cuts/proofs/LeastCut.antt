@@ -4,8 +4,7 @@
 --     fewest-zero      a cut of no link is the fewest
 --     fewest-above     a cut within k + 1 and none within k make k + 1 the fewest
 --     no-fewest        where not even all links make a cut there is no fewest
-use Prim.Native.Nat.{ℕ, zero, suc, _+_, _≤_, zero-le}
-use mathlib.Core.Bool.{false, true}
+use Prim.Native.Nat.{ℕ, zero, suc, _≤_, zero-le}
 use mathlib.Core.Logic.{⊎-elim}
 use mathlib.Core.Path.{_≡_}
 use native.Mathlib.Omega.{arith}

@@ -13,4 +13,9 @@ pub mod LeastCut
 pub mod Composing
 pub mod Stepping
 pub mod Running
+pub mod Faithfulness
+pub mod Drawing
+pub mod Exemplified
 pub mod Mistaken
+pub mod Loops
+pub mod Same

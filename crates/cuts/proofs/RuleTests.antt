@@ -1,6 +1,10 @@
 -- Each rule's test is true just when the rule applies.
+--     idle-link-decided, dominated-link-decided, unit-road-decided, dominated-pair-decided,
+--     common-factor-decided, overloaded-link-decided, disjoint-pairs-decided    one for each rule
+--     crowd-decided      whether a list is k + 1 different open pairs
+--     of-link, of-pair   what is to be shown of everything on a road need be shown only within the numbering
 use Prim.Native.Nat.{ℕ, _+_, _≤_, _<_}
-use mathlib.Core.Bool.{Bool, true, _&&_}
+use mathlib.Core.Bool.{Bool, _&&_}
 use mathlib.Core.List.{List}
 use mathlib.Core.Path.{_≡_}
 use lib.Dec.{eqb}
@@ -8,15 +12,13 @@ use lib.ListN.{length}
 use Rattle.std.proofs.shelf.Tests.{false≢true}
 use Rattle.std.proofs.shelf.Ways.{decides-and, decides-eqb, decides-like, decides-not}
 use Rattle.std.specs.Orderings.{Decides}
-use Rattle.std.specs.shelf.Lists.{All}
 use Rattle.cuts.proofs.Deciding.{decides-implies, decides-self, links-decided, list-decided, pairs-decided, pairwise-decided}
 use Rattle.cuts.specs.After.{offRoad}
-use Rattle.cuts.specs.Instances.{Instance, Live, Open, On, Sound}
+use Rattle.cuts.specs.Instances.{Instance, Open, On, Sound}
 use Rattle.cuts.specs.Rules.{Differ, Share, OnRoad, IsLink, Never, Pairwise, IdleLink, DominatedLink, UnitRoad, DominatedPair, Crowd, CommonFactor, OverloadedLink, DisjointPairs}
-use Rattle.cuts.specs.Tests.{allLinks, allOf, allPairs, alsoOn, differ, follows, implies, isCommonFactor, isCrowd, isDisjointPairs, isDominatedLink, isDominatedPair, isIdleLink, isLink, isOverloadedLink, isUnitRoad, never, onRoad, pairwise, sharedIs, shares, soleOn}
+use Rattle.cuts.specs.Tests.{allLinks, allOf, allPairs, alsoOn, differ, follows, isCommonFactor, isCrowd, isDisjointPairs, isDominatedLink, isDominatedPair, isIdleLink, isLink, isOverloadedLink, isUnitRoad, never, onRoad, pairwise, sharedIs, shares, soleOn}
 
 module _ (i : Instance) (ok : Sound i) where
-  -- only links and pairs of the numbering have anything to do with a road
   of-link : (p : ℕ) (Q : ℕ → Type 0) (x : ℕ) → (x ≤ i .highest → On i x p → Q x) → On i x p → Q x
   of-link p Q x h on = h (ok .to-highest x (ok .on-live x p on)) on
 

@@ -4,10 +4,10 @@
 --     some-set-found     if f is true of some set among 1 to n, here is one
 --     some-set-from      and if it is true of a set among them, it is true of some
 --     has-cut-decided    whether there is a cut within k
-use Prim.Native.Nat.{ℕ, zero, suc, _+_, _≤_, _<_}
+use Prim.Native.Nat.{ℕ, zero, suc, _+_, _≤_}
 use mathlib.Core.Bool.{Bool, true, false, not, _&&_, _||_}
-use mathlib.Core.Logic.{_⊎_, ⊎-elim}
-use mathlib.Core.Path.{_≡_, refl, ap, fun-ext, subst, sym, _∙_}
+use mathlib.Core.Logic.{⊎-elim}
+use mathlib.Core.Path.{_≡_, refl, ap, fun-ext, sym, _∙_}
 use native.Mathlib.Omega.{arith}
 use lib.Dec.{eqb, leb}
 use Rattle.std.proofs.shelf.Tests.{and-from, and-parts, both-ways, cases-bool, cases-eq, eqb-true, false≢true, le-leb, leb-true, or-cases, or-left, or-right}
@@ -25,14 +25,14 @@ abbrev Among : ℕ → Links → Type 0
 Among n s = (x : ℕ) → In s x → (1 ≤ x) × (x ≤ n)
 
 -- a set with l in it is l and the rest
-joined : (a b : Bool) → (b ≡ true → a ≡ true) → a ≡ (b || (a && not b))
-joined true true h = refl
-joined true false h = refl
-joined false true h = absurd (false≢true (h refl))
-joined false false h = refl
+put-back : (a b : Bool) → (b ≡ true → a ≡ true) → a ≡ (b || (a && not b))
+put-back true true h = refl
+put-back true false h = refl
+put-back false true h = absurd (false≢true (h refl))
+put-back false false h = refl
 
-split-off : (s : Links) (l : ℕ) → In s l → s ≡ union (one l) (less s l)
-split-off s l h = fun-ext (λ x. joined (s x) (eqb x l) (λ e. ap s (eqb-true x l e) ∙ h))
+link-and-rest : (s : Links) (l : ℕ) → In s l → s ≡ union (one l) (less s l)
+link-and-rest s l h = fun-ext (λ x. put-back (s x) (eqb x l) (λ e. ap s (eqb-true x l e) ∙ h))
 
 among-more : (n : ℕ) (s : Links) → Among n s → Among (suc n) s
 among-more n s h x e = let (low, high) = h x e in (low, omega arith)
@@ -66,7 +66,7 @@ some-set-from f (suc n) s inner passes =
     (λ h. or-right (someSet f n) (someSet (withLink f (suc n)) n)
     (some-set-from (withLink f (suc n)) n (less s (suc n))
     (among-fewer n (less s (suc n)) (λ x e. inner x (less-in s (suc n) x e)) (less-other s (suc n)))
-    (ap f (sym (split-off s (suc n) h)) ∙ passes)))
+    (ap f (sym (link-and-rest s (suc n) h)) ∙ passes)))
     (λ h. or-left (someSet f n) (someSet (withLink f (suc n)) n)
     (some-set-from f n s (among-fewer n s inner (λ x e is. both-ways (s (suc n)) h (ap s (sym is) ∙ e))) passes))
     (cases-bool (s (suc n)))

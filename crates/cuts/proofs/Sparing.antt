@@ -1,7 +1,7 @@
 -- A step that cuts no link.
 --     spare-reduces    it reduces if the pairs that go are met by every cut of what remains within the budget, if each
 --                      cut gives one of what remains that is no larger, and if no road becomes empty
-use Prim.Native.Nat.{ℕ, _+_, _≤_}
+use Prim.Native.Nat.{ℕ, _≤_}
 use mathlib.Core.Bool.{Bool, false}
 use mathlib.Core.Path.{_≡_, refl}
 use native.Mathlib.Omega.{arith}

@@ -2,7 +2,7 @@
 --     disjoint-no-cut    k + 1 pairs that share no link are not parted by k links
 --     step-reduces       an admitted step reduces
 --     step-decided       whether a step is admitted is decided by its test
-use Prim.Native.Nat.{ℕ, _+_, _≤_}
+use Prim.Native.Nat.{ℕ, _≤_}
 use mathlib.Core.List.{List}
 use native.Mathlib.Omega.{arith}
 use lib.Dec.{leb}

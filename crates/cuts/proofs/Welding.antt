@@ -2,7 +2,7 @@
 --     weld-reduces              a weld reduces if each cut gives one without l that is no larger, and no road becomes empty
 --     idle-link-reduces         an idle link is left out of the cut
 --     dominated-link-reduces    a dominated link is exchanged for the one that dominates it
-use Prim.Native.Nat.{ℕ, _+_, _≤_}
+use Prim.Native.Nat.{ℕ, _≤_}
 use mathlib.Core.Bool.{false}
 use mathlib.Core.Logic.{_≢_, ⊎-elim}
 use mathlib.Core.Path.{_≡_, refl, ap, sym, _∙_}

@@ -7,5 +7,7 @@ pub mod Search
 pub mod Reduces
 pub mod Steps
 pub mod Runs
+pub mod Drawn
+pub mod Examples
 pub mod Mistakes
 pub mod Promises

@@ -8,7 +8,7 @@
 --     union s t     the links that are in s or in t
 --     count s n     how many of the links 1 to n are in s
 use Prim.Native.Nat.{ℕ, zero, suc, _+_}
-use mathlib.Core.Bool.{Bool, true, false, not, _&&_, _||_}
+use mathlib.Core.Bool.{Bool, true, false, cond, not, _&&_, _||_}
 use mathlib.Core.Path.{_≡_}
 use lib.Dec.{eqb}
 
@@ -33,10 +33,6 @@ less s l x = s x && not (eqb x l)
 abbrev pub union : Links → Links → Links
 union s t x = s x || t x
 
-abbrev pub bit : Bool → ℕ
-bit true = 1
-bit false = 0
-
 abbrev pub count : Links → ℕ → ℕ
 count s zero = 0
-count s (suc n) = bit (s (suc n)) + count s n
+count s (suc n) = cond (s (suc n)) (count s n + 1) (count s n)

@@ -4,7 +4,7 @@
 --     ..Decided           a rule's test is true just when the rule applies
 --     Runs.., Reductions..    the same of many steps
 --     Fewest.., Search..  the fewest links of a cut
-use Prim.Native.Nat.{ℕ, _-_, _≤_}
+use Prim.Native.Nat.{ℕ, _+_, _-_, _≤_}
 use mathlib.Core.List.{List}
 use mathlib.Core.Path.{_≡_}
 use lib.ListN.{length}
@@ -15,7 +15,7 @@ use Rattle.cuts.specs.Instances.{Instance, Open, Sound, Met, Cut, HasCut, Fewe
 use Rattle.cuts.specs.Links.{Links, Outside, none, one, union}
 use Rattle.cuts.specs.Reduces.{Reduces}
 use Rattle.cuts.specs.Rules.{IdleLink, DominatedLink, UnitRoad, DominatedPair, CommonFactor, OverloadedLink, DisjointPairs, Never, Pairwise, Share}
-use Rattle.cuts.specs.Runs.{AllAdmitted, Faithful, Run, afterAll, cutByAll, leftAfterAll}
+use Rattle.cuts.specs.Runs.{AllAdmitted, Faithful, Run, afterAll, costOfAll, cutByAll, leftAfterAll}
 use Rattle.cuts.specs.Search.{hasCut}
 use Rattle.cuts.specs.Steps.{Admitted, Step, after, cutBy, isAdmitted, leftAfter}
 use Rattle.cuts.specs.Tests.{isCommonFactor, isDisjointPairs, isDominatedLink, isDominatedPair, isIdleLink, isOverloadedLink, isUnitRoad}
@@ -101,6 +101,12 @@ ReductionsAreFaithful =
 abbrev pub ListedStepsRun : Type 0
 ListedStepsRun =
     (i : Instance) (b : ℕ) (ss : List Step) → AllAdmitted i b ss → Run i b (afterAll i ss) (leftAfterAll b ss) (cutByAll ss)
+
+-- What is left and what was cut make up the budget, and no link is cut twice: there are as many as steps that cut.
+abbrev pub ListedStepsAddUp : Type 0
+ListedStepsAddUp =
+    (i : Instance) → Sound i → (b : ℕ) (ss : List Step) → AllAdmitted i b ss →
+    (leftAfterAll b ss + costOfAll ss ≡ b) × (size i (cutByAll ss) ≡ costOfAll ss)
 
 abbrev pub RunsLoseNothing : Type 0
 RunsLoseNothing = (i : Instance) → Sound i → (b : ℕ) (j : Instance) (k : ℕ) (c : Links) → Run i b j k c → Reduces i b j k c

@@ -5,6 +5,7 @@
 --     after i s          the instance after the step
 --     leftAfter k s      what is left after it
 --     cutBy s            the links that it cuts
+--     costOf s           how many these are: 1 or 0
 -- After disjoint pairs the instance stays as it is: there is no cut within what is left, and the work is at its end.
 use Prim.Native.Nat.{ℕ, _-_, _≤_}
 use mathlib.Core.Bool.{Bool, _&&_}
@@ -69,3 +70,12 @@ cutBy (dominated-pair q r) = none
 cutBy (common-factor r qs) = none
 cutBy (overloaded-link l qs) = one l
 cutBy (disjoint-pairs qs) = none
+
+abbrev pub costOf : Step → ℕ
+costOf (idle-link l) = 0
+costOf (dominated-link l h) = 0
+costOf (unit-road l p) = 1
+costOf (dominated-pair q r) = 0
+costOf (common-factor r qs) = 0
+costOf (overloaded-link l qs) = 1
+costOf (disjoint-pairs qs) = 0

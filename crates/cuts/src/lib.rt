@@ -1,6 +1,7 @@
 // Cuts: why no reduction step loses anything. Theory alone: each function does nothing, and its contract is a theorem.
 mod bounds;
 mod conditions;
+mod examples;
 mod fewest;
 mod mistakes;
 mod rules;
@@ -16,6 +17,8 @@ pub use conditions::idle_link_is_decided;
 pub use conditions::overloaded_link_is_decided;
 pub use conditions::steps_are_decided;
 pub use conditions::unit_road_is_decided;
+pub use examples::ladder_is_solved;
+pub use examples::rules_apply;
 pub use fewest::fewest_is_found;
 pub use fewest::fewest_is_unique;
 pub use fewest::search_decides;
@@ -29,6 +32,7 @@ pub use rules::dominated_pair_loses_nothing;
 pub use rules::idle_link_loses_nothing;
 pub use rules::overloaded_link_loses_nothing;
 pub use rules::unit_road_loses_nothing;
+pub use runs::listed_steps_add_up;
 pub use runs::listed_steps_run;
 pub use runs::reductions_are_faithful;
 pub use runs::reductions_compose;

@@ -1,5 +1,5 @@
 // Many steps: what one does not lose, many do not lose.
-ghost use Rattle.cuts.specs.Promises.{StepsLoseNothing, ReductionsCompose, ReductionsAreFaithful, ListedStepsRun, RunsLoseNothing, RunsAreFaithful, RunsLeaveNoEmptyRoad, RunsToDisjointPairs};
+ghost use Rattle.cuts.specs.Promises.{StepsLoseNothing, ReductionsCompose, ReductionsAreFaithful, ListedStepsRun, ListedStepsAddUp, RunsLoseNothing, RunsAreFaithful, RunsLeaveNoEmptyRoad, RunsToDisjointPairs};
 
 // One admitted step, by whichever rule.
 pub fn steps_lose_nothing()
@@ -19,6 +19,11 @@ pub fn reductions_are_faithful()
 // A list of steps, each admitted in its turn, is a run.
 pub fn listed_steps_run()
     ensures { λ _. ⌜ ListedStepsRun ⌝ }
+{}
+
+// What is left and the links cut make up the budget, and no link is cut twice.
+pub fn listed_steps_add_up()
+    ensures { λ _. ⌜ ListedStepsAddUp ⌝ }
 {}
 
 // A run is a reduction, however many steps it has.

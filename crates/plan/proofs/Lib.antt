@@ -3,7 +3,7 @@ pub mod Climbs
 pub mod Fields
 pub mod Members
 pub mod Places
-pub mod Refusals
+pub mod Refusing
 pub mod Roads
 pub mod Rows
 pub mod Shared

@@ -1,5 +1,6 @@
 pub mod Bits
 pub mod Layout
 pub mod Plans
+pub mod Refusals
 pub mod Shape
 pub mod Tree

@@ -3,6 +3,7 @@ mod bits;
 mod fault;
 mod fresh;
 mod reading;
+mod refusals;
 mod shape;
 mod tree;
 

@@ -1,5 +1,6 @@
 // Workings: an editor's steps over any road-book, and the rest that they leave.
 mod fault;
+mod refusals;
 mod rest;
 mod step;
 mod steps;
@@ -7,6 +8,9 @@ mod tally;
 mod working;
 
 pub use fault::WorkingFault;
+pub use fault::WorkingFaultDebug;
+pub use fault::WorkingFaultEq;
+pub use fault::WorkingFaultPartialEq;
 pub use rest::WorkingRest;
 pub use step::Step;
 pub use tally::LinkMark;

@@ -6,7 +6,7 @@ use native.Mathlib.Omega.{arith}
 use borrow.Author.Needs.{needs}
 use Rattle.std.proofs.shelf.Results.{err-from-errBy}
 use Rattle.plan.specs.Layout.{pairPlace, Refuses}
-use Rattle.plan.proofs.Refusals.{pair-refused}
+use Rattle.plan.proofs.Refusing.{pair-refused}
 use Rattle.plan.proofs.shape.Plan.read.Needs as need
 
 pub returns-in-Break-terms : need.returns-in-Break-terms
