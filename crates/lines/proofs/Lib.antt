@@ -1,3 +1,4 @@
 pub mod Letters
+pub mod Runs
 pub mod Scans
 pub mod Splits

@@ -2,8 +2,11 @@
 mod calls;
 mod fault;
 mod line_reader;
+mod marking;
 mod numbers;
 mod printing;
+mod refusals;
 mod scan;
 
 pub use fault::LineFault;
+pub use marking::mark;
