@@ -1,5 +1,12 @@
 // What each reduction rule asks of the roads, asked of any road-book.
 mod all;
+mod common;
+mod listed;
 
+pub use all::is_always_with;
 pub use all::is_road_alone;
+pub use all::is_road_within;
 pub use all::passes_no_road;
+pub use common::Common;
+pub use listed::all_pass;
+pub use listed::share_only;

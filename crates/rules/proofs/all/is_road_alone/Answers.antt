@@ -6,7 +6,7 @@ use native.Mathlib.Omega.{arith}
 use borrow.Author.Needs.{needs}
 use Rattle.cuts.specs.Tests.{allLinks, soleOn}
 use Rattle.book.specs.Posed.{posed}
-use Rattle.rules.proofs.Below.{below-more, below-not}
+use Rattle.cuts.proofs.Loops.{all-below-fails, all-below-more}
 use Rattle.rules.proofs.all.is_road_alone.Needs as need
 
 pub returns-then-on-road : need.returns-then-on-road
@@ -16,7 +16,7 @@ returns-then-on-road g c =
     let x = c .loop-other .other in
     let h : x < i .highest + 1 = omega (arith, c .highest-other-end .ensures) in
     let e : f x ≡ false = search needs in
-    let z : allLinks i f ≡ false = below-not f (i .highest + 1) x h e in
+    let z : allLinks i f ≡ false = all-below-fails f (i .highest + 1) x h e in
     search needs
 
 pub loop-other-again : need.loop-other-again
@@ -25,4 +25,4 @@ loop-other-again g c =
     let f = soleOn i (c .args .link) (c .args .pair) in
     let x = c .loop-other .other in
     let e : f x ≡ true = search needs in
-    below-more f x (c .loop-other .inv) e
+    all-below-more f x (c .loop-other .inv) e

@@ -5,7 +5,7 @@ use mathlib.Core.Path.{_≡_, sym, ap, _∙_}
 use native.Mathlib.Omega.{arith}
 use Rattle.cuts.specs.After.{offRoad}
 use Rattle.book.specs.Posed.{posed}
-use Rattle.rules.proofs.Below.{below-more, below-not}
+use Rattle.cuts.proofs.Loops.{all-below-fails, all-below-more}
 use Rattle.rules.proofs.all.passes_no_road.Needs as need
 
 pub returns-then-on-road : need.returns-then-on-road
@@ -14,9 +14,9 @@ returns-then-on-road g c =
     let f = offRoad i (c .args .link) in
     let p = c .loop-pair .pair in
     let h : p < i .pairs = omega (arith, c .pairs-pair-end .ensures) in
-    sym (below-not f (i .pairs) p h (sym (ap not (c .if-on-road .ensures tt))))
+    sym (all-below-fails f (i .pairs) p h (sym (ap not (c .if-on-road .ensures tt))))
 
 pub loop-pair-again : need.loop-pair-again
 loop-pair-again g c =
     let i = posed (g .B·RoadBook .meaning (c .args .book .now)) in
-    below-more (offRoad i (c .args .link)) (c .loop-pair .pair) (c .loop-pair .inv) (sym (ap not (c .if-on-road .ensures tt)))
+    all-below-more (offRoad i (c .args .link)) (c .loop-pair .pair) (c .loop-pair .inv) (sym (ap not (c .if-on-road .ensures tt)))
