@@ -1,7 +1,11 @@
 // Workings: an editor's steps over any road-book, and the rest that they leave.
 mod fault;
+mod laying;
+mod lists;
+mod marking;
 mod refusals;
 mod rest;
+mod singles;
 mod step;
 mod steps;
 mod tally;

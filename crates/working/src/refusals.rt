@@ -9,7 +9,9 @@ impl WorkingFault {
     {
         match self {
             WorkingFault::Ended => 6,
+            WorkingFault::WrongLength(_) => 7,
             WorkingFault::NotLive(_) | WorkingFault::NotOpen(_) => 8,
+            WorkingFault::Repeated(_) => 9,
             WorkingFault::NothingLeft(_) => 10,
             WorkingFault::RuleFails(_) => 11,
         }
@@ -20,8 +22,10 @@ impl WorkingFault {
     {
         match self {
             WorkingFault::Ended => 0,
+            WorkingFault::WrongLength(length) => length,
             WorkingFault::NotLive(link) => usize::from(link),
             WorkingFault::NotOpen(pair) => usize::from(pair),
+            WorkingFault::Repeated(number) => usize::from(number),
             WorkingFault::NothingLeft(link) => usize::from(link),
             WorkingFault::RuleFails(number) => usize::from(number),
         }

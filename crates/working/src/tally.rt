@@ -1,4 +1,4 @@
-// What has been done in a working: its marks, what is left of its budget, and how it stands.
+// What has been done in a working: its marks, its entries, what is left of its budget, and how it stands.
 
 // A link is welded where its two terms are joined for good, and cut where they are parted.
 #[derive(Clone, Copy, PartialEq, Eq, Debug)]
@@ -22,6 +22,8 @@ pub struct Tally {
     pub links: [LinkMark; 256],
     // whether each pair has been dropped: it need not be separated any more
     pub dropped: [bool; 256],
+    // the entry number of each link, 0 where it has none
+    pub entries: [u16; 256],
     // how many links may still be cut
     pub left: u8,
     pub state: State,
