@@ -15,18 +15,17 @@ use Rattle.std.specs.declared.option.Option.{Option}
 use Rattle.std.specs.declared.option.Option.the-variants.{None, Some}
 use Rattle.std.specs.declared.result.Result.{Result}
 use Rattle.std.specs.declared.result.Result.the-variants.{Err, Ok}
+use Rattle.cuts.specs.Steps.{Step, common-factor, disjoint-pairs, dominated-link, dominated-pair, idle-link, overloaded-link, unit-road}
 use Rattle.plan.specs.Refusals.{Layer, line, working}
 use Rattle.book.specs.Meaning.{Meaning}
 use Rattle.working.specs.Judging.{Judgement, judged}
 use Rattle.working.specs.Refusals.{workingNumber, workingPlace}
-use Rattle.working.specs.declared.step.Step.{Step}
-use Rattle.working.specs.declared.step.Step.the-variants.{IdleLink, UnitRoad}
 use Rattle.working.specs.declared.tally.Tally.{Tally}
 use Rattle.lines.specs.Numbers.{numbersIn}
 use Rattle.lines.specs.declared.fault.LineFault.{LineFault}
 use Rattle.lines.specs.declared.fault.LineFault.the-variants.{NotALine, Working}
 
--- a step that takes one number, and one that takes two
+-- a step that takes one number, one that takes two, and one that takes a number and a list
 abbrev pub withOne : (ℕ → Step) → List ℕ → Option Step
 withOne f [] = None
 withOne f (a ∷ []) = Some (f a)
@@ -38,9 +37,20 @@ withTwo f (a ∷ []) = None
 withTwo f (a ∷ b ∷ []) = Some (f a b)
 withTwo f (a ∷ b ∷ c ∷ ns) = None
 
--- the letters: 105 is i, 117 is u
+abbrev pub withList : (ℕ → List ℕ → Step) → List ℕ → Option Step
+withList f [] = None
+withList f (a ∷ ns) = Some (f a ns)
+
+-- the letters by their bytes: i is 105, e 101, u 117, p 112, f 102, o 111 and n 110
 abbrev pub stepBy : ℕ → List ℕ → Option Step
-stepBy letter ns = cond (eqb letter 105) (withOne IdleLink ns) (cond (eqb letter 117) (withTwo UnitRoad ns) None)
+stepBy letter ns =
+    cond (eqb letter 105) (withOne idle-link ns) (
+    cond (eqb letter 101) (withTwo dominated-link ns) (
+    cond (eqb letter 117) (withTwo unit-road ns) (
+    cond (eqb letter 112) (withTwo dominated-pair ns) (
+    cond (eqb letter 102) (withList common-factor ns) (
+    cond (eqb letter 111) (withList overloaded-link ns) (
+    cond (eqb letter 110) (Some (disjoint-pairs ns)) None))))))
 
 abbrev pub stepOf : ℕ → Option (List ℕ) → Option Step
 stepOf letter None = None

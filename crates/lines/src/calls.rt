@@ -2,7 +2,9 @@
 ghost use Prim.Native.Nat.{ℕ};
 ghost use Rattle.lines.specs.Calls.{callJudged, lineJudged, stepBy, LineJudgement, LineOutcome};
 ghost use Rattle.lines.specs.declared.fault.LineFault.the-variants.{Working as Held};
+ghost use Rattle.std.specs.Options.{mapped};
 ghost use Rattle.std.specs.Vec.{made};
+ghost use Rattle.working.specs.Judging.{ruleOf};
 ghost use mathlib.Core.Path.{_≡_};
 use crate::fault::LineFault;
 use crate::numbers::read_numbers;
@@ -22,18 +24,35 @@ impl From<WorkingFault> for LineFault as LineFromWorking {
 }
 
 // The step that a letter and its numbers ask for.
-fn step_by(letter: u8, numbers: &[u16]) -> Option<Step>
-    ensures { λ r. ⌜ r ≡ stepBy letter (now (numbers .entry)) ⌝ }
+fn step_by<'a>(letter: u8, numbers: &'a [u16]) -> Option<Step<'a>>
+    ensures { λ r. ⌜ mapped ruleOf r ≡ stepBy letter (now (numbers .entry)) ⌝ }
 {
     match letter as char {
         'i' => match numbers {
             [link] => Some(Step::IdleLink(*link)),
             _ => None,
         },
+        'e' => match numbers {
+            [link, by] => Some(Step::DominatedLink(*link, *by)),
+            _ => None,
+        },
         'u' => match numbers {
             [link, pair] => Some(Step::UnitRoad(*link, *pair)),
             _ => None,
         },
+        'p' => match numbers {
+            [inner, outer] => Some(Step::DominatedPair(*inner, *outer)),
+            _ => None,
+        },
+        'f' => match numbers {
+            [pair, pairs @ ..] => Some(Step::CommonFactor(*pair, pairs)),
+            _ => None,
+        },
+        'o' => match numbers {
+            [link, pairs @ ..] => Some(Step::OverloadedLink(*link, pairs)),
+            _ => None,
+        },
+        'n' => Some(Step::DisjointPairs(numbers)),
         _ => None,
     }
 }

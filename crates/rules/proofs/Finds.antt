@@ -53,8 +53,8 @@ module _ (seen qs : List ℕ) (k : ℕ) where
       let q = getD qs k 0 in
       let new : among q (seen ++ take k qs) ≡ false = among-append q seen (take k qs) ∙ or-from (among q seen) (among q (take k qs)) a b in
       sym (at-drop-more (firstRepeat (seen ++ take k qs)) qs k 0 h ∙
-        cond-false (among q (seen ++ take k qs)) (Some q) (firstRepeat ((seen ++ take k qs) ++ (q ∷ [])) (drop (k + 1) qs)) new ∙
-        ap (λ xs. firstRepeat xs (drop (k + 1) qs)) (append-assoc seen (take k qs) (q ∷ []) ∙ ap (λ xs. seen ++ xs) (sym (take-more qs k 0 h))))
+      cond-false (among q (seen ++ take k qs)) (Some q) (firstRepeat ((seen ++ take k qs) ++ (q ∷ [])) (drop (k + 1) qs)) new ∙
+      ap (λ xs. firstRepeat xs (drop (k + 1) qs)) (append-assoc seen (take k qs) (q ∷ []) ∙ ap (λ xs. seen ++ xs) (sym (take-more qs k 0 h))))
 
   pub repeat-none : length qs ≤ k → firstRepeat (seen ++ take k qs) (drop k qs) ≡ None
   repeat-none h = at-drop-all (firstRepeat (seen ++ take k qs)) qs k h

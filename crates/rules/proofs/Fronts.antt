@@ -65,7 +65,7 @@ pub pairwise-fails : (f : ℕ → ℕ → Bool) (qs : List ℕ) (k : ℕ) → k 
 pairwise-fails f qs k h fails =
     ⊎-elim
     (λ all.
-      let split = sym (ap (pairwise f) (take-more qs k 0 h) ∙ pairwise-push f (take k qs) (getD qs k 0)) ∙ pairwise-front f (k + 1) qs all in
-      absurd (both-ways _ fails (and-parts (pairwise f (take k qs)) (allOf (towards f (getD qs k 0)) (take k qs)) split .1)))
+    let split = sym (ap (pairwise f) (take-more qs k 0 h) ∙ pairwise-push f (take k qs) (getD qs k 0)) ∙ pairwise-front f (k + 1) qs all in
+    absurd (both-ways _ fails (and-parts (pairwise f (take k qs)) (allOf (towards f (getD qs k 0)) (take k qs)) split .1)))
     (λ not-all. not-all)
     (cases-bool (pairwise f qs))
