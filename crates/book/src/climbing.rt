@@ -37,15 +37,15 @@ pub impl<'a> RoadBook for ClimbingBook<'a> as ClimbingRoads {
     }
 
     fn is_open(&self, pair: u16) -> bool {
-        pair < self.plan.pairs()
+        pair < self.pairs()
     }
 
     fn rank(&self, pair: u16) -> u16 {
         if !self.is_open(pair) {
             return 0;
         }
-        let (first, second) = self.plan.ends(pair);
-        self.plan.rank(first, second)
+        let (a, b) = self.plan.ends(pair);
+        self.plan.rank(a, b)
     }
 
     // A link is on the road between two terms exactly when it lies above one of them alone.

@@ -1,4 +1,5 @@
 // Steps on listed pairs, one more than is left.
+ghost use Prim.Native.Nat.{_+_};
 ghost use Rattle.book.specs.Posed.{posed};
 ghost use Rattle.cuts.specs.Steps.{common-factor, disjoint-pairs, overloaded-link};
 ghost use Rattle.working.specs.Judging.{ruled, Outcome};
@@ -17,11 +18,18 @@ use rules::first_repeat;
 use rules::share_only;
 
 impl<'a, B: RoadBook> Working<'a, B> {
+    // One more pair than links are left: if no two share a link, they cannot all be parted.
+    fn one_too_many(&self) -> usize
+        ensures { λ r. ⌜ r ≡ now (self .entry) .tally .left + 1 ⌝ }
+    {
+        self.tally.left as usize + 1
+    }
+
     pub(crate) fn common_factor(&mut self, pair: u16, pairs: &[u16]) -> Result<(), WorkingFault>
         ensures outcome { λ r. ⌜ Outcome (ruled (posed (rest (B·RoadBook .meaning (now (now (self .entry) .book))) (now (self .entry) .tally))) (now (self .entry) .tally) (common-factor pair (now (pairs .entry)))) (now (self .entry) .tally) r (now (self .exit) .tally) ⌝ }
         ensures keeps { λ _. ⌜ now (self .exit) .book ≡ now (self .entry) .book ⌝ }
     {
-        if pairs.len() != self.tally.left as usize + 1 {
+        if pairs.len() != self.one_too_many() {
             return Err(WorkingFault::WrongLength(pairs.len()));
         }
         if !self.is_open(pair) {
@@ -44,7 +52,7 @@ impl<'a, B: RoadBook> Working<'a, B> {
         ensures outcome { λ r. ⌜ Outcome (ruled (posed (rest (B·RoadBook .meaning (now (now (self .entry) .book))) (now (self .entry) .tally))) (now (self .entry) .tally) (overloaded-link link (now (pairs .entry)))) (now (self .entry) .tally) r (now (self .exit) .tally) ⌝ }
         ensures keeps { λ _. ⌜ now (self .exit) .book ≡ now (self .entry) .book ⌝ }
     {
-        if pairs.len() != self.tally.left as usize + 1 {
+        if pairs.len() != self.one_too_many() {
             return Err(WorkingFault::WrongLength(pairs.len()));
         }
         if !self.is_live(link) {
@@ -73,7 +81,7 @@ impl<'a, B: RoadBook> Working<'a, B> {
         ensures outcome { λ r. ⌜ Outcome (ruled (posed (rest (B·RoadBook .meaning (now (now (self .entry) .book))) (now (self .entry) .tally))) (now (self .entry) .tally) (disjoint-pairs (now (pairs .entry)))) (now (self .entry) .tally) r (now (self .exit) .tally) ⌝ }
         ensures keeps { λ _. ⌜ now (self .exit) .book ≡ now (self .entry) .book ⌝ }
     {
-        if pairs.len() != self.tally.left as usize + 1 {
+        if pairs.len() != self.one_too_many() {
             return Err(WorkingFault::WrongLength(pairs.len()));
         }
         if let Some(pair) = first_closed(self, pairs) {

@@ -15,17 +15,17 @@ use rules::is_road_within;
 use rules::passes_no_road;
 
 impl<'a, B: RoadBook> Working<'a, B> {
-    pub(crate) fn idle_link(&mut self, link: u16) -> Result<(), WorkingFault>
-        ensures outcome { λ r. ⌜ Outcome (ruled (posed (rest (B·RoadBook .meaning (now (now (self .entry) .book))) (now (self .entry) .tally))) (now (self .entry) .tally) (idle-link link)) (now (self .entry) .tally) r (now (self .exit) .tally) ⌝ }
+    pub(crate) fn idle_link(&mut self, idle: u16) -> Result<(), WorkingFault>
+        ensures outcome { λ r. ⌜ Outcome (ruled (posed (rest (B·RoadBook .meaning (now (now (self .entry) .book))) (now (self .entry) .tally))) (now (self .entry) .tally) (idle-link idle)) (now (self .entry) .tally) r (now (self .exit) .tally) ⌝ }
         ensures keeps { λ _. ⌜ now (self .exit) .book ≡ now (self .entry) .book ⌝ }
     {
-        if !self.is_live(link) {
-            return Err(WorkingFault::NotLive(link));
+        if !self.is_live(idle) {
+            return Err(WorkingFault::NotLive(idle));
         }
-        if !passes_no_road(self, link) {
-            return Err(WorkingFault::RuleFails(link));
+        if !passes_no_road(self, idle) {
+            return Err(WorkingFault::RuleFails(idle));
         }
-        self.weld(link);
+        self.weld(idle);
         Ok(())
     }
 
