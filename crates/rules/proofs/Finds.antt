@@ -1,6 +1,7 @@
 -- Searches through a list, as a loop goes through it.
 --     closed-here, closed-next, closed-none     for the first pair that is not open
 --     among-here, among-next, among-none        for a number
+--     among-append    among two lists, one behind the other
 --     repeat-in-front, repeat-here, repeat-next, repeat-none    for the first that repeats an earlier one
 use mathlib.Core.Bool.{Bool, true, false, _||_, cond, or-assoc}
 use mathlib.Core.List.{List, [], _∷_, _++_, append-assoc}
@@ -34,7 +35,7 @@ module _ (x : ℕ) (xs : List ℕ) (k : ℕ) where
   pub among-none : length xs ≤ k → among x (drop k xs) ≡ false
   among-none h = at-drop-all (among x) xs k h
 
-among-append : (x : ℕ) (xs ys : List ℕ) → among x (xs ++ ys) ≡ (among x xs || among x ys)
+pub among-append : (x : ℕ) (xs ys : List ℕ) → among x (xs ++ ys) ≡ (among x xs || among x ys)
 among-append x [] ys = refl
 among-append x (z ∷ zs) ys = ap (λ b. eqb x z || b) (among-append x zs ys) ∙ sym (or-assoc (eqb x z) (among x zs) (among x ys))
 

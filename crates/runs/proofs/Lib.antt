@@ -1,0 +1,5 @@
+pub mod Admitting
+pub mod Checks
+pub mod Following
+pub mod Leaving
+pub mod Marks

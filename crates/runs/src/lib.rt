@@ -1,0 +1,14 @@
+// Runs: what the steps of a working come to, by the theory of cuts.
+ghost use Rattle.runs.specs.Judged.{RulesAdmitSteps, StepsFollowRules};
+
+// A step that is admitted meets its rule, and the rest after it is the one that the rule leaves.
+pub fn steps_follow_rules()
+    ensures { λ _. ⌜ StepsFollowRules ⌝ }
+{
+}
+
+// In an open working, a step that meets its rule is admitted.
+pub fn rules_admit_steps()
+    ensures { λ _. ⌜ RulesAdmitSteps ⌝ }
+{
+}
