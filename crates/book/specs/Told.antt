@@ -1,5 +1,6 @@
 -- What a book tells of a plan, and that it is lawful.
 --     told p         links 1 to n - 1 are live, every pair is open, and ranks and legs are those of the tree
+--     toldBy         the same, of a tree and pairs that no plan need hold
 --     told-lawful    this obeys the law of books
 use mathlib.Core.Bool.{Bool, true, false, _&&_, _||_}
 use mathlib.Core.Logic.{⊎-elim}
@@ -24,16 +25,20 @@ use Rattle.book.specs.declared.leg.Leg.the-variants.{First, Second}
 abbrev pub isLink : Plan → ℕ → Bool
 isLink p l = ltb 0 l && ltb l (p .terms)
 
-abbrev pub told : Plan → Meaning
-told p = record {
-  highest = p .terms - 1;
-  pairs = p .pairs;
-  live = isLink p;
-  opened = λ q. ltb q (p .pairs);
-  rank = λ q. rank (broaderOf p) (endsOf p q .0) (endsOf p q .1);
-  first = λ q. leg (broaderOf p) (endsOf p q .0) (endsOf p q .1);
-  second = λ q. leg (broaderOf p) (endsOf p q .1) (endsOf p q .0);
+-- by the numbers of terms and pairs, the broader terms and the terms of the pairs
+abbrev pub toldBy : ℕ → ℕ → (ℕ → ℕ) → (ℕ → ℕ × ℕ) → Meaning
+toldBy n m up ends = record {
+  highest = n - 1;
+  pairs = m;
+  live = λ l. ltb 0 l && ltb l n;
+  opened = λ q. ltb q m;
+  rank = λ q. rank up (ends q .0) (ends q .1);
+  first = λ q. leg up (ends q .0) (ends q .1);
+  second = λ q. leg up (ends q .1) (ends q .0);
 }
+
+abbrev pub told : Plan → Meaning
+told p = toldBy (p .terms) (p .pairs) (broaderOf p) (endsOf p)
 
 -- both terms of a pair are terms, and so below 256
 pub ends-in : (p : Plan) (q : ℕ) → ltb q (p .pairs) ≡ true → (endsOf p q .0 < p .terms) × (endsOf p q .1 < p .terms)
