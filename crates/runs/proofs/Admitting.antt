@@ -71,27 +71,33 @@ module _ (m : Meaning) (t : Tally) (o : isOpen (t .state) ≡ true) where
       let a = and-parts (i .opened r && isCrowd i (t .left) qs) (allOf (differ r) qs && pairwise (shares i (onRoad i r)) qs) e in
       let b = and-parts (i .opened r) (isCrowd i (t .left) qs) (a .0) in
       let c = crowd-parts qs (b .1) in
-      let d = and-parts (allOf (differ r) qs) (pairwise (shares i (onRoad i r)) qs) (a .1) in
-      (u, check-from _ _ _ u o (check-from (eqb (length qs) (t .left + 1)) _ _ u (c .0) (check-from (i .opened r) _ _ u (b .0)
-        (check-none-from (firstClosed (i .opened) qs) _ _ u (all-closed (i .opened) qs (c .1))
-        (check-none-from (firstRepeat (r ∷ []) qs) _ _ u (all-repeat (r ∷ []) qs (c .2) (one-seen r qs (d .0)))
-        (check-from (pairwise (shares i (onRoad i r)) qs) _ _ u (d .1) refl))))))
+      let d = and-parts (allOf (differ r) qs) (pairwise (shares i (onRoad i r)) qs) (a .1) in (
+        u,
+        check-from _ _ _ u o (check-from (eqb (length qs) (t .left + 1)) _ _ u (c .0) (check-from (i .opened r) _ _ u (b .0)
+            (check-none-from (firstClosed (i .opened) qs) _ _ u (all-closed (i .opened) qs (c .1))
+            (check-none-from (firstRepeat (r ∷ []) qs) _ _ u (all-repeat (r ∷ []) qs (c .2) (one-seen r qs (d .0)))
+            (check-from (pairwise (shares i (onRoad i r)) qs) _ _ u (d .1) refl))))),
+      )
   admit (overloaded-link l qs) e =
       let u = cutLink i l t in
       let k = and-parts (leb 1 (t .left)) (isOverloadedLink i (t .left) l qs) e in
       let a = and-parts (i .live l && isCrowd i (t .left) qs) (allOf (i .on l) qs && pairwise (shares i (isLink l)) qs) (k .1) in
       let b = and-parts (i .live l) (isCrowd i (t .left) qs) (a .0) in
-      let c = crowd-parts qs (b .1) in
-      (u, check-from _ _ _ u o (check-from (eqb (length qs) (t .left + 1)) _ _ u (c .0) (check-from (i .live l) _ _ u (b .0)
-        (check-none-from (firstClosed (i .opened) qs) _ _ u (all-closed (i .opened) qs (c .1))
-        (check-none-from (firstRepeat [] qs) _ _ u (all-repeat [] qs (c .2) (none-seen qs))
-        (check-from (differ (t .left) 0) _ _ u (some-left (k .0))
-        (check-from (allOf (i .on l) qs && pairwise (shares i (isLink l)) qs) _ _ u (a .1) refl)))))))
+      let c = crowd-parts qs (b .1) in (
+        u,
+        check-from _ _ _ u o (check-from (eqb (length qs) (t .left + 1)) _ _ u (c .0) (check-from (i .live l) _ _ u (b .0)
+            (check-none-from (firstClosed (i .opened) qs) _ _ u (all-closed (i .opened) qs (c .1))
+            (check-none-from (firstRepeat [] qs) _ _ u (all-repeat [] qs (c .2) (none-seen qs))
+            (check-from (differ (t .left) 0) _ _ u (some-left (k .0))
+            (check-from (allOf (i .on l) qs && pairwise (shares i (isLink l)) qs) _ _ u (a .1) refl)))))),
+      )
   admit (disjoint-pairs qs) e =
       let u = endNone t in
       let a = and-parts (isCrowd i (t .left) qs) (pairwise (shares i never) qs) e in
-      let c = crowd-parts qs (a .0) in
-      (u, check-from _ _ _ u o (check-from (eqb (length qs) (t .left + 1)) _ _ u (c .0)
-        (check-none-from (firstClosed (i .opened) qs) _ _ u (all-closed (i .opened) qs (c .1))
-        (check-none-from (firstRepeat [] qs) _ _ u (all-repeat [] qs (c .2) (none-seen qs))
-        (check-from (pairwise (shares i never) qs) _ _ u (a .1) refl)))))
+      let c = crowd-parts qs (a .0) in (
+        u,
+        check-from _ _ _ u o (check-from (eqb (length qs) (t .left + 1)) _ _ u (c .0)
+            (check-none-from (firstClosed (i .opened) qs) _ _ u (all-closed (i .opened) qs (c .1))
+            (check-none-from (firstRepeat [] qs) _ _ u (all-repeat [] qs (c .2) (none-seen qs))
+            (check-from (pairwise (shares i never) qs) _ _ u (a .1) refl)))),
+      )

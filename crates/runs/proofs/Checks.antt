@@ -68,9 +68,10 @@ repeat-all seen (q ∷ qs) e =
     ⊎-elim
     (λ t. absurd (some-none (sym (cond-true (among q seen) (Some q) (firstRepeat (seen ++ (q ∷ [])) qs) t) ∙ e)))
     (λ t.
-      let r = repeat-all (seen ++ (q ∷ [])) qs (sym (cond-false (among q seen) (Some q) (firstRepeat (seen ++ (q ∷ [])) qs) t) ∙ e) in
-      (and-from (allOf (differ q) qs) (pairwise differ qs) (r .1 q (among-last q seen)) (r .0),
-       λ s h. and-from (differ s q) (allOf (differ s) qs) (differ-from s q (λ is. both-ways (among q seen) t (ap (λ x. among x seen) (sym is) ∙ h))) (r .1 s (among-more s q seen h))))
+    let r = repeat-all (seen ++ (q ∷ [])) qs (sym (cond-false (among q seen) (Some q) (firstRepeat (seen ++ (q ∷ [])) qs) t) ∙ e) in (
+      and-from (allOf (differ q) qs) (pairwise differ qs) (r .1 q (among-last q seen)) (r .0),
+      λ s h. and-from (differ s q) (allOf (differ s) qs) (differ-from s q (λ is. both-ways (among q seen) t (ap (λ x. among x seen) (sym is) ∙ h))) (r .1 s (among-more s q seen h)),
+    ))
     (cases-bool (among q seen))
 
 pub all-repeat : (seen qs : List ℕ) → pairwise differ qs ≡ true → ((s : ℕ) → among s seen ≡ true → allOf (differ s) qs ≡ true) → firstRepeat seen qs ≡ None
@@ -81,10 +82,10 @@ all-repeat seen (q ∷ qs) e from =
     ⊎-elim
     (λ t. absurd (both-ways (differ q q) self (and-parts (differ q q) (allOf (differ q) qs) (from q t) .0)))
     (λ t.
-      cond-false (among q seen) (Some q) (firstRepeat (seen ++ (q ∷ [])) qs) t ∙
-      all-repeat (seen ++ (q ∷ [])) qs (h .1) (λ s a.
-        ⊎-elim
-        (λ b. and-parts (differ s q) (allOf (differ s) qs) (from s b) .1)
-        (λ b. ⊎-elim (λ c. subst (λ x. allOf (differ x) qs ≡ true) (sym (eqb-true s q c)) (h .0)) (λ c. absurd (both-ways false refl c)) (or-cases (eqb s q) false b))
-        (or-cases (among s seen) (among s (q ∷ [])) (sym (among-append s seen (q ∷ [])) ∙ a))))
+    cond-false (among q seen) (Some q) (firstRepeat (seen ++ (q ∷ [])) qs) t ∙
+    all-repeat (seen ++ (q ∷ [])) qs (h .1) (λ s a.
+    ⊎-elim
+    (λ b. and-parts (differ s q) (allOf (differ s) qs) (from s b) .1)
+    (λ b. ⊎-elim (λ c. subst (λ x. allOf (differ x) qs ≡ true) (sym (eqb-true s q c)) (h .0)) (λ c. absurd (both-ways false refl c)) (or-cases (eqb s q) false b))
+    (or-cases (among s seen) (among s (q ∷ [])) (sym (among-append s seen (q ∷ [])) ∙ a))))
     (cases-bool (among q seen))

@@ -87,8 +87,8 @@ module _ (m : Meaning) (law : Lawful m) (t u : Tally) (whole : Whole t) where
       let others = apart .1 r (or-left (eqb r r) _ (eq-eqb r r refl)) in
       made (common-factor r qs) (dropPair r t) (o .0)
       (and-from (i .opened r && isCrowd i (t .left) qs) (allOf (differ r) qs && pairwise (shares i (onRoad i r)) qs)
-        (and-from (i .opened r) (isCrowd i (t .left) qs) (a .0) (crowd qs (n .0) (closed-all (i .opened) qs (b .0)) (apart .0)))
-        (and-from (allOf (differ r) qs) (pairwise (shares i (onRoad i r)) qs) others (d .0)))
+      (and-from (i .opened r) (isCrowd i (t .left) qs) (a .0) (crowd qs (n .0) (closed-all (i .opened) qs (b .0)) (apart .0)))
+      (and-from (allOf (differ r) qs) (pairwise (shares i (onRoad i r)) qs) others (d .0)))
       (drop-leaves m law t whole r (a .0)) refl (d .1)
   follow (overloaded-link l qs) e =
       let o = check-parts _ _ _ u e in
@@ -100,8 +100,8 @@ module _ (m : Meaning) (law : Lawful m) (t u : Tally) (whole : Whole t) where
       let d = check-parts (allOf (i .on l) qs && pairwise (shares i (isLink l)) qs) _ _ u (k .1) in
       made (overloaded-link l qs) (cutLink i l t) (o .0)
       (and-from (leb 1 (t .left)) _ (some-left (k .0))
-        (and-from (i .live l && isCrowd i (t .left) qs) (allOf (i .on l) qs && pairwise (shares i (isLink l)) qs)
-          (and-from (i .live l) (isCrowd i (t .left) qs) (a .0) (crowd qs (n .0) (closed-all (i .opened) qs (b .0)) (repeat-all [] qs (c .0) .0))) (d .0)))
+      (and-from (i .live l && isCrowd i (t .left) qs) (allOf (i .on l) qs && pairwise (shares i (isLink l)) qs)
+      (and-from (i .live l) (isCrowd i (t .left) qs) (a .0) (crowd qs (n .0) (closed-all (i .opened) qs (b .0)) (repeat-all [] qs (c .0) .0))) (d .0)))
       (cut-leaves m law t whole l (a .0)) refl (d .1)
   follow (disjoint-pairs qs) e =
       let o = check-parts _ _ _ u e in

@@ -33,22 +33,25 @@ module _ (m : Meaning) (law : Lawful m) (t : Tally) (whole : Whole t) where
   pub weld-leaves : (l : ℕ) → rest m t .live l ≡ true → (posed (rest m (weldLink l t)) ≡ theory.weldLink (posed (rest m t)) l) × Whole (weldLink l t)
   weld-leaves l e = (
     marks-remain m t (weldLink l t) (butFor l) every
-    (λ x. marked-but (t .links) Welded l x refl (link-fits l e))
-    (λ p. sym (and-true (undropped t p))),
-    record { links = length-set (t .links) l Welded ∙ whole .links; pairs = whole .pairs })
+        (λ x. marked-but (t .links) Welded l x refl (link-fits l e))
+        (λ p. sym (and-true (undropped t p))),
+    record { links = length-set (t .links) l Welded ∙ whole .links; pairs = whole .pairs },
+  )
 
   pub cut-leaves : (l : ℕ) → rest m t .live l ≡ true → (posed (rest m (cutLink (posed (rest m t)) l t)) ≡ theory.cutLink (posed (rest m t)) l) × Whole (cutLink (posed (rest m t)) l t)
   cut-leaves l e =
       let i = posed (rest m t) in
       let fits : i .pairs ≤ length (t .dropped) = omega (arith, law .few-pairs, whole .pairs) in (
-      marks-remain m t (cutLink i l t) (butFor l) (offRoad i l)
-      (λ x. marked-but (t .links) Cut l x refl (link-fits l e))
-      (λ p. dropped-off i sound l (t .dropped) p fits),
-      record { links = length-set (t .links) l Cut ∙ whole .links; pairs = length-drops (i .on l) (i .pairs) (t .dropped) ∙ whole .pairs })
+        marks-remain m t (cutLink i l t) (butFor l) (offRoad i l)
+            (λ x. marked-but (t .links) Cut l x refl (link-fits l e))
+            (λ p. dropped-off i sound l (t .dropped) p fits),
+        record { links = length-set (t .links) l Cut ∙ whole .links; pairs = length-drops (i .on l) (i .pairs) (t .dropped) ∙ whole .pairs },
+      )
 
   pub drop-leaves : (r : ℕ) → rest m t .opened r ≡ true → (posed (rest m (dropPair r t)) ≡ theory.dropPair (posed (rest m t)) r) × Whole (dropPair r t)
   drop-leaves r e = (
     marks-remain m t (dropPair r t) every (butFor r)
-    (λ x. sym (and-true (unmarked t x)))
-    (λ p. dropped-but (t .dropped) r p (pair-fits r e)),
-    record { links = whole .links; pairs = length-set (t .dropped) r true ∙ whole .pairs })
+        (λ x. sym (and-true (unmarked t x)))
+        (λ p. dropped-but (t .dropped) r p (pair-fits r e)),
+    record { links = whole .links; pairs = length-set (t .dropped) r true ∙ whole .pairs },
+  )

@@ -41,18 +41,18 @@ pub marked-but : (xs : List LinkMark) (k : LinkMark) (l x : ℕ) → isUnmarked 
 marked-but xs k l x free h =
     ⊎-elim
     (λ e. ap (λ y. isUnmarked (getD (set xs l k) y Unmarked)) e ∙ ap isUnmarked (getD-set-same xs l k Unmarked h) ∙ free ∙
-      sym (ap (λ b. isUnmarked (getD xs x Unmarked) && not b) (eq-eqb x l e) ∙ and-false (isUnmarked (getD xs x Unmarked))))
+    sym (ap (λ b. isUnmarked (getD xs x Unmarked) && not b) (eq-eqb x l e) ∙ and-false (isUnmarked (getD xs x Unmarked))))
     (λ ne. ap isUnmarked (getD-set-other xs l x k Unmarked ne) ∙
-      sym (ap (λ b. isUnmarked (getD xs x Unmarked) && not b) (ne-eqb x l ne) ∙ and-true (isUnmarked (getD xs x Unmarked))))
+    sym (ap (λ b. isUnmarked (getD xs x Unmarked) && not b) (ne-eqb x l ne) ∙ and-true (isUnmarked (getD xs x Unmarked))))
     (cases-eq x l)
 
 pub dropped-but : (ds : List Bool) (r p : ℕ) → r < length ds → not (getD (set ds r true) p false) ≡ (not (getD ds p false) && butFor r p)
 dropped-but ds r p h =
     ⊎-elim
     (λ e. ap (λ y. not (getD (set ds r true) y false)) e ∙ ap not (getD-set-same ds r true false h) ∙
-      sym (ap (λ b. not (getD ds p false) && not b) (eq-eqb p r e) ∙ and-false (not (getD ds p false))))
+    sym (ap (λ b. not (getD ds p false) && not b) (eq-eqb p r e) ∙ and-false (not (getD ds p false))))
     (λ ne. ap not (getD-set-other ds r p true false ne) ∙
-      sym (ap (λ b. not (getD ds p false) && not b) (ne-eqb p r ne) ∙ and-true (not (getD ds p false))))
+    sym (ap (λ b. not (getD ds p false) && not b) (ne-eqb p r ne) ∙ and-true (not (getD ds p false))))
     (cases-eq p r)
 
 pub length-drops : (f : ℕ → Bool) (n : ℕ) (ds : List Bool) → length (dropWhere f n ds) ≡ length ds
@@ -68,15 +68,15 @@ dropped-here f zero ds p fits h e = absurd (omega arith)
 dropped-here f (suc n) ds p fits h e =
     ⊎-elim
     (λ is.
-      let here = cond-true (f n) (set (dropWhere f n ds) n true) (dropWhere f n ds) (ap f (sym is) ∙ e) in
-      ap (λ xs. getD xs p false) here ∙ ap (λ k. getD (set (dropWhere f n ds) n true) k false) is ∙
-      getD-set-same (dropWhere f n ds) n true false (omega (arith, length-drops f n ds)))
+    let here = cond-true (f n) (set (dropWhere f n ds) n true) (dropWhere f n ds) (ap f (sym is) ∙ e) in
+    ap (λ xs. getD xs p false) here ∙ ap (λ k. getD (set (dropWhere f n ds) n true) k false) is ∙
+    getD-set-same (dropWhere f n ds) n true false (omega (arith, length-drops f n ds)))
     (λ ne.
-      let before = dropped-here f n ds p (omega arith) (omega (arith, ne)) e in
-      ⊎-elim
-      (λ t. ap (λ xs. getD xs p false) (cond-true (f n) (set (dropWhere f n ds) n true) (dropWhere f n ds) t) ∙ getD-set-other (dropWhere f n ds) n p true false ne ∙ before)
-      (λ t. ap (λ xs. getD xs p false) (cond-false (f n) (set (dropWhere f n ds) n true) (dropWhere f n ds) t) ∙ before)
-      (cases-bool (f n)))
+    let before = dropped-here f n ds p (omega arith) (omega (arith, ne)) e in
+    ⊎-elim
+    (λ t. ap (λ xs. getD xs p false) (cond-true (f n) (set (dropWhere f n ds) n true) (dropWhere f n ds) t) ∙ getD-set-other (dropWhere f n ds) n p true false ne ∙ before)
+    (λ t. ap (λ xs. getD xs p false) (cond-false (f n) (set (dropWhere f n ds) n true) (dropWhere f n ds) t) ∙ before)
+    (cases-bool (f n)))
     (cases-eq p n)
 
 pub dropped-not : (f : ℕ → Bool) (n : ℕ) (ds : List Bool) (p : ℕ) → f p ≡ false → getD (dropWhere f n ds) p false ≡ getD ds p false
@@ -84,8 +84,8 @@ dropped-not f zero ds p e = refl
 dropped-not f (suc n) ds p e =
     ⊎-elim
     (λ t.
-      let ne : p ≢ n = λ is. both-ways (f n) (ap f (sym is) ∙ e) t in
-      ap (λ xs. getD xs p false) (cond-true (f n) (set (dropWhere f n ds) n true) (dropWhere f n ds) t) ∙ getD-set-other (dropWhere f n ds) n p true false ne ∙ dropped-not f n ds p e)
+    let ne : p ≢ n = λ is. both-ways (f n) (ap f (sym is) ∙ e) t in
+    ap (λ xs. getD xs p false) (cond-true (f n) (set (dropWhere f n ds) n true) (dropWhere f n ds) t) ∙ getD-set-other (dropWhere f n ds) n p true false ne ∙ dropped-not f n ds p e)
     (λ t. ap (λ xs. getD xs p false) (cond-false (f n) (set (dropWhere f n ds) n true) (dropWhere f n ds) t) ∙ dropped-not f n ds p e)
     (cases-bool (f n))
 
