@@ -1,0 +1,5 @@
+pub mod Order
+pub mod Outcome
+pub mod Promise
+pub mod Refusals
+pub mod Run

@@ -1,0 +1,42 @@
+-- What a rough cut promises, in the words of cuts alone.
+--     listedIn xs           the set of the links that stand in xs
+--     RoughCut m ls ps      ls is a cut, rising; ps are open pairs that share no link, two by two; so every cut has at least
+--                           as many links as ps has pairs, and ls has at most twice the links of any cut
+--     Promised m r xs ys    where r is no refusal, its counts tell the front of each slice, and these are such a cut and
+--                           such pairs
+--     OneOrder              the open pairs of a lawful book stand in order in one way, and that is what the list inOrder is
+use mathlib.Core.Bool.{Bool}
+use mathlib.Core.List.{List}
+use mathlib.Core.Path.{_≡_}
+use Prim.Native.Nat.{ℕ, _*_, _<_, _≤_}
+use lib.ListN.{length, take}
+use Rattle.std.specs.declared.result.Result.the-variants.{Err, Ok}
+use Rattle.std.specs.shelf.Lists.{All}
+use Rattle.cuts.specs.Instances.{Cut, Open, size}
+use Rattle.cuts.specs.Links.{Links}
+use Rattle.cuts.specs.Rules.{Never, Pairwise, Share}
+use Rattle.plan.specs.Tree.{among}
+use Rattle.book.specs.Meaning.{Lawful, Meaning}
+use Rattle.book.specs.Posed.{posed}
+use Rattle.rough.specs.Order.{InOrder, inOrder}
+use Rattle.rough.specs.Outcome.{Counts}
+
+abbrev pub listedIn : List ℕ → Links
+listedIn xs l = among l xs
+
+pub record RoughCut (m : Meaning) (ls ps : List ℕ) : Type 0 where
+  pub cut : Cut (posed m) (listedIn ls)
+  pub rising : Pairwise _<_ ls
+  pub opened : All (Open (posed m)) ps
+  pub apart : Pairwise (Share (posed m) Never) ps
+  pub at-least : (s : Links) → Cut (posed m) s → length ps ≤ size (posed m) s
+  pub twice : length ls ≤ 2 * length ps
+  pub at-most : (s : Links) → Cut (posed m) s → length ls ≤ 2 * size (posed m) s
+
+abbrev pub Promised : Meaning → Counts → List ℕ → List ℕ → Type 0
+Promised m (Ok c) xs ys =
+    (length (take (c .0) xs) ≡ c .0) × (length (take (c .1) ys) ≡ c .1) × RoughCut m (take (c .0) xs) (take (c .1) ys)
+Promised m (Err e) xs ys = Unit {0}
+
+abbrev pub OneOrder : Type 0
+OneOrder = (m : Meaning) → Lawful m → InOrder m (inOrder m) × ((ps : List ℕ) → InOrder m ps → ps ≡ inOrder m)

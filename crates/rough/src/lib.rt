@@ -1,0 +1,8 @@
+// The rough cut: a cut of any road-book with at most twice the fewest links, and the pairs that show it.
+mod fault;
+mod refusals;
+
+pub use fault::RoughFault;
+pub use fault::RoughFaultDebug;
+pub use fault::RoughFaultEq;
+pub use fault::RoughFaultPartialEq;
