@@ -22,6 +22,7 @@ use Rattle.cuts.specs.Links.{less}
 use Rattle.cuts.specs.Rules.{Pairwise}
 use Rattle.cuts.proofs.Counting.{less-from, less-in, less-other}
 use Rattle.plan.specs.Tree.{among}
+use Rattle.rough.proofs.Pairs.{all-both}
 use Rattle.rough.specs.Order.{firstOf, insert, nearer, sorted}
 
 none-first : (xs : List ℕ) → nth xs 0 ≡ None → xs ≡ []
@@ -36,10 +37,6 @@ pub all-among : (P : ℕ → Type 0) (q : ℕ) (ys : List ℕ) → All P ys → 
 all-among P q [] h e = let z : _≡_ {A = ℕ} 0 1 = cc in absurd (omega arith)
 all-among P q (y ∷ ys) (h, hs) e =
     ⊎-elim (λ is. subst P (sym (eqb-true q y is)) h) (λ t. all-among P q ys hs t) (or-cases (eqb q y) (among q ys) e)
-
-all-both : (P Q R : ℕ → Type 0) → ((q : ℕ) → P q → Q q → R q) → (ys : List ℕ) → All P ys → All Q ys → All R ys
-all-both P Q R h [] ps qs = tt
-all-both P Q R h (y ∷ ys) (p, ps) (q, qs) = (h y p q, all-both P Q R h ys ps qs)
 
 -- what is among a list and is not its head is among the rest
 behind-head : (p : ℕ) (ps : List ℕ) (q : ℕ) → among q (p ∷ ps) ≡ true → (q ≡ p → ⊥) → among q ps ≡ true
