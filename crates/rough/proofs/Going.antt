@@ -80,7 +80,7 @@ module _ (m : Meaning) (law : Lawful m) where
         let wider : (q : ℕ) → Met (posed m) s q → Met (posed m) (h .chosen) q = λ q (x, x-in, x-on). (x, more x x-in, x-on) in
         let here : Met (posed m) (h .chosen) p = let (x, x-in, x-on) = tops-meet m law p o full in (x, tops-in x x-in, x-on) in
         let others : All (Kept m h ps) (g .apart) =
-            all-weaker (Kept m g (p ∷ ps)) (Kept m h ps) (λ a k. record { opened = k .opened; chosen = λ x e. more x (k .chosen x e); low = k .low .1 }) (g .apart) (so .kept) in
+        all-weaker (Kept m g (p ∷ ps)) (Kept m h ps) (λ a k. record { opened = k .opened; chosen = λ x e. more x (k .chosen x e); low = k .low .1 }) (g .apart) (so .kept) in
         record {
           inside = λ l e. ⊎-elim (so .inside l) (tops-live m law p l o) (or-cases (s l) (tops m p l) e);
           met = λ q oq.

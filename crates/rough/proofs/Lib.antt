@@ -1,6 +1,9 @@
 pub mod Approximate
+pub mod Bounded
 pub mod Earlier
+pub mod Filling
 pub mod Going
+pub mod Nearest
 pub mod Ordered
 pub mod Pairs
 pub mod Rising

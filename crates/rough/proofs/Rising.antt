@@ -36,7 +36,7 @@ module _ (s : Links) where
   all-rising zero = tt
   all-rising (suc n) =
       let more : All (λ x. (x < suc n) × (s x ≡ true)) (rising s n) =
-          all-weaker (λ x. (x < n) × (s x ≡ true)) (λ x. (x < suc n) × (s x ≡ true)) (λ x (lt, e). (omega arith, e)) (rising s n) (all-rising n) in
+      all-weaker (λ x. (x < n) × (s x ≡ true)) (λ x. (x < suc n) × (s x ≡ true)) (λ x (lt, e). (omega arith, e)) (rising s n) (all-rising n) in
       cond-both (s n) (rising s n ++ (n ∷ [])) (rising s n) (All (λ x. (x < suc n) × (s x ≡ true)))
       (λ e. all-push (λ x. (x < suc n) × (s x ≡ true)) (rising s n) n more (omega arith, e))
       (λ _. more)

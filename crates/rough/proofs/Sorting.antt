@@ -163,7 +163,7 @@ module _ (b : ℕ → ℕ → Bool) where
         let here : f n ≡ true = ap f (sym is) ∙ e in
         let gone : g n ≡ false = ap (less f p) (sym is) ∙ less-itself f p in
         let front : All (λ y. b n y ≡ true) ys =
-            all-sorted (λ y. b n y ≡ true) f n (λ q less′ e′. subst (λ x. b x q ≡ true) is (h q (omega arith) e′ (λ same. omega arith))) in
+        all-sorted (λ y. b n y ≡ true) f n (λ q less′ e′. subst (λ x. b x q ≡ true) is (h q (omega arith) e′ (λ same. omega arith))) in
         let same : ys ≡ zs = sorted-same f g n (λ q less′. sym (less-others f p q (λ s. omega arith))) in
         cond-true (f n) (insert b n ys) ys here ∙ insert-front n ys front ∙ ap (λ x. x ∷ ys) (sym is) ∙ ap (λ xs. p ∷ xs) same ∙
         ap (λ xs. p ∷ xs) (sym (cond-false (g n) (insert b n zs) zs gone)))

@@ -94,9 +94,9 @@ module _ (m : Meaning) where
     tops-apart s a p oa op low all unmet x on-a on-p =
         let low′ : m .rank p ≤ m .rank a = omega (arith, rank-of p op, rank-of a oa) in
         let leads : (t : Leg) → among x (legOf m t a) ≡ true → ⊥ = λ t e.
-            let (j, at) = among-at x (legOf m t a) e in
-            let (y, head) = some-head (legOf m t a) j x at in
-            unmet (y, all y (head-is-top t a y head), law .tree p a x y 0 j t oa on-p low′ at head zero-le) in
+        let (j, at) = among-at x (legOf m t a) e in
+        let (y, head) = some-head (legOf m t a) j x at in
+        unmet (y, all y (head-is-top t a y head), law .tree p a x y 0 j t oa on-p low′ at head zero-le) in
         let h = and-parts (m .live x) (m .opened a && (among x (m .first a) || among x (m .second a))) on-a .1 in
         let k = and-parts (m .opened a) (among x (m .first a) || among x (m .second a)) h .1 in
         ⊎-elim (leads First) (leads Second) (or-cases (among x (m .first a)) (among x (m .second a)) k)

@@ -1,3 +1,4 @@
+pub mod Arrays
 pub mod Order
 pub mod Outcome
 pub mod Promise

@@ -1,5 +1,8 @@
 // The rough cut: a cut of any road-book with at most twice the fewest links, and the pairs that show it.
 mod fault;
+mod listed;
+mod listing;
+mod order;
 mod refusals;
 
 pub use fault::RoughFault;
