@@ -3,9 +3,13 @@ pub mod Bounded
 pub mod Earlier
 pub mod Filling
 pub mod Going
+pub mod Lowest
 pub mod Nearest
 pub mod Ordered
 pub mod Pairs
 pub mod Rising
+pub mod Marking
+pub mod Somewhere
 pub mod Sorting
 pub mod Tops
+pub mod Turns

@@ -21,7 +21,8 @@ pub(crate) fn ranks_of<B: RoadBook>(book: &B) -> [u16; 256]
 
 // The pairs to go through.
 pub(crate) fn open_pairs<B: RoadBook>(book: &B) -> [bool; 256]
-    ensures { λ r. ⌜ ((p : ℕ) → held r p ≡ meaning (now (book .entry)) .opened p) ⌝ }
+    ensures long { λ r. ⌜ length r ≡ 256 ⌝ }
+    ensures opened { λ r. ⌜ ((p : ℕ) → held r p ≡ meaning (now (book .entry)) .opened p) ⌝ }
 {
     let mut left = [false; 256];
     for pair in 0..256 {

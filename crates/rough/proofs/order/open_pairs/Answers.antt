@@ -21,4 +21,7 @@ returns g c =
     let b = c .args .book .now in
     let m = g .B·RoadBook .meaning b in
     let (long, below) = c .loop-pair .inv in
-    fill-all (m .opened) false (c .loop-pair .left) 256 long (λ k lt. below k (omega arith)) (none-open m (g .B·RoadBook .lawful b))
+    record {
+      long = long;
+      opened = fill-all (m .opened) false (c .loop-pair .left) 256 long (λ k lt. below k (omega arith)) (none-open m (g .B·RoadBook .lawful b));
+    }
