@@ -3,6 +3,7 @@ pub mod Bounded
 pub mod Earlier
 pub mod Filling
 pub mod Going
+pub mod Kept
 pub mod Lowest
 pub mod Nearest
 pub mod Ordered

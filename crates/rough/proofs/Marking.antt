@@ -24,17 +24,17 @@ use Rattle.rough.specs.Run.{top}
 module _ (xs : List Bool) (l : ℕ) (lt : l < length xs) where
   held-more : held (set xs l true) ≡ union (held xs) (one l)
   held-more = fun-ext (λ x.
-    ⊎-elim
-    (λ is. ap (held (set xs l true)) is ∙ getD-set-same xs l true false lt ∙ sym (ap (λ t. held xs x || t) (eq-eqb x l is) ∙ or-true (held xs x)))
-    (λ ne. getD-set-other xs l x true false ne ∙ sym (ap (λ t. held xs x || t) (ne-eqb x l ne) ∙ or-false (held xs x)))
-    (cases-eq x l))
+      ⊎-elim
+      (λ is. ap (held (set xs l true)) is ∙ getD-set-same xs l true false lt ∙ sym (ap (λ t. held xs x || t) (eq-eqb x l is) ∙ or-true (held xs x)))
+      (λ ne. getD-set-other xs l x true false ne ∙ sym (ap (λ t. held xs x || t) (ne-eqb x l ne) ∙ or-false (held xs x)))
+      (cases-eq x l))
 
   pub held-less : held (set xs l false) ≡ less (held xs) l
   held-less = fun-ext (λ x.
-    ⊎-elim
-    (λ is. ap (held (set xs l false)) is ∙ getD-set-same xs l false false lt ∙ sym (and-right (held xs x) (not (eqb x l)) (not-from-true (eqb x l) (eq-eqb x l is))))
-    (λ ne. getD-set-other xs l x false false ne ∙ sym (ap (λ t. held xs x && t) (not-from-false (eqb x l) (ne-eqb x l ne)) ∙ and-true (held xs x)))
-    (cases-eq x l))
+      ⊎-elim
+      (λ is. ap (held (set xs l false)) is ∙ getD-set-same xs l false false lt ∙ sym (and-right (held xs x) (not (eqb x l)) (not-from-true (eqb x l) (eq-eqb x l is))))
+      (λ ne. getD-set-other xs l x false false ne ∙ sym (ap (λ t. held xs x && t) (not-from-false (eqb x l) (ne-eqb x l ne)) ∙ and-true (held xs x)))
+      (cases-eq x l))
 
   pub held-top : (ls : List ℕ) → nth ls 0 ≡ Some l → held (set xs l true) ≡ union (held xs) (top ls)
   held-top [] e = let z : _≡_ {A = ℕ} 0 1 = cc in absurd (omega arith)
@@ -45,7 +45,7 @@ held-both s t u = fun-ext (λ x. or-assoc (s x) (t x) (u x))
 
 pub held-blank : (n : ℕ) → held (replicate n false) ≡ none
 held-blank n = fun-ext (λ x.
-  ⊎-elim
-  (λ lt. getD-replicate n x false false lt)
-  (λ le. let e = length-replicate n false in getD-past (replicate n false) x false (omega arith))
-  (cases-lt x n))
+    ⊎-elim
+    (λ lt. getD-replicate n x false false lt)
+    (λ le. let e = length-replicate n false in getD-past (replicate n false) x false (omega arith))
+    (cases-lt x n))

@@ -21,8 +21,7 @@ loop-pair-holds g c =
     let order = earlier (numbered (c .ranks-of-ranks .result)) in
     let f = held (c .open-pairs-left .result) in
     let first : sorted order f (c .pairs-pairs .result) ≡ inOrder m = ap (sorted order f) n ∙ first-order m (c .ranks-of-ranks .result) (c .open-pairs-left .result) (c .ranks-of-ranks .ensures) (c .open-pairs-left .ensures .opened) in
-    let none : c .empty-apart .result .count ≡ 0 = sym (listed-long (c .empty-apart .result)) ∙ ap length (c .empty-apart .ensures) in
-    (
+    let none : c .empty-apart .result .count ≡ 0 = sym (listed-long (c .empty-apart .result)) ∙ ap length (c .empty-apart .ensures) in (
       ap (λ h. goThrough m h (sorted order f (c .pairs-pairs .result))) (same-gone (goneBy (replicate 256 false) (c .empty-apart .result)) noneGone (held-blank 256) (c .empty-apart .ensures)) ∙ ap (goThrough m noneGone) first,
       omega (arith, none, n, law .few-pairs, length-sorted order f (c .pairs-pairs .result)),
       λ p e. sym (c .open-pairs-left .ensures .opened p) ∙ e,
@@ -57,8 +56,7 @@ loop-pair-again g c =
     let behind = sorted order (held (set left p false)) (c .pairs-pairs .result) in
     let before = goneBy (c .loop-pair .chosen) (c .loop-pair .apart) in
     let (so-far, short, opened, long) = c .loop-pair .inv in
-    let (lt, here, is) = next-turn (c .ranks-of-ranks .result) left (c .pairs-pairs .result) p long few (c .in-Some .ensures tt) in
-    (
+    let (lt, here, is) = next-turn (c .ranks-of-ranks .result) left (c .pairs-pairs .result) p long few (c .in-Some .ensures tt) in (
       ap (λ h. goThrough m h behind) (c .take-up .ensures) ∙ ap (goThrough m before) (sym is) ∙ so-far,
       omega (arith, ap length is, ap (λ h. length (h .apart)) (c .take-up .ensures), take-up-longer m before p, listed-long (c .take-up .last .apart), listed-long (c .loop-pair .apart)),
       λ q e. opened q (less-in (held left) p q (ap (λ s. s q) (sym (held-less left p (omega arith))) ∙ e)),
