@@ -1,5 +1,6 @@
 pub mod Approximate
 pub mod Bounded
+pub mod Drawn
 pub mod Earlier
 pub mod Filling
 pub mod Going

@@ -4,3 +4,4 @@ pub mod Outcome
 pub mod Promise
 pub mod Refusals
 pub mod Run
+pub mod Sample

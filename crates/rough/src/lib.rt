@@ -7,9 +7,12 @@ mod order;
 mod refusals;
 mod roads;
 mod run;
+mod theorems;
 
 pub use call::rough;
 pub use fault::RoughFault;
 pub use fault::RoughFaultDebug;
 pub use fault::RoughFaultEq;
 pub use fault::RoughFaultPartialEq;
+pub use theorems::pairs_have_one_order;
+pub use theorems::sample_is_cut;
