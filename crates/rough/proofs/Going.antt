@@ -25,10 +25,10 @@ use Rattle.plan.specs.Tree.{among}
 use Rattle.book.specs.Meaning.{Lawful, Meaning, rankAt}
 use Rattle.book.specs.Posed.{lawful-sound, posed}
 use Rattle.rough.proofs.Pairs.{pairwise-push}
-use Rattle.rough.proofs.Tops.{tops-apart, tops-few, tops-live, tops-meet}
+use Rattle.rough.proofs.Tops.{tops, tops-apart, tops-few, tops-live, tops-meet, with-tops}
 use Rattle.rough.specs.Order.{Before}
 use Rattle.rough.specs.Outcome.{emptyRoad}
-use Rattle.rough.specs.Run.{Gone, goThrough, noneGone, takeUp, tops, writtenDown}
+use Rattle.rough.specs.Run.{Gone, goThrough, noneGone, takeUp, writtenDown}
 
 -- q has no greater rank than a
 abbrev pub Lower : Meaning → ℕ → ℕ → Type 0
@@ -75,14 +75,15 @@ module _ (m : Meaning) (law : Lawful m) where
     written o full low unmet =
         let s = g .chosen in
         let h = writtenDown m g p in
-        let more : (x : ℕ) → In s x → In (h .chosen) x = λ x e. or-left (s x) (tops m p x) e in
-        let tops-in : (x : ℕ) → In (tops m p) x → In (h .chosen) x = λ x e. or-right (s x) (tops m p x) e in
+        let all : h .chosen ≡ union s (tops m p) = with-tops m s p in
+        let more : (x : ℕ) → In s x → In (h .chosen) x = λ x e. ap (λ t. t x) all ∙ or-left (s x) (tops m p x) e in
+        let tops-in : (x : ℕ) → In (tops m p) x → In (h .chosen) x = λ x e. ap (λ t. t x) all ∙ or-right (s x) (tops m p x) e in
         let wider : (q : ℕ) → Met (posed m) s q → Met (posed m) (h .chosen) q = λ q (x, x-in, x-on). (x, more x x-in, x-on) in
         let here : Met (posed m) (h .chosen) p = let (x, x-in, x-on) = tops-meet m law p o full in (x, tops-in x x-in, x-on) in
         let others : All (Kept m h ps) (g .apart) =
         all-weaker (Kept m g (p ∷ ps)) (Kept m h ps) (λ a k. record { opened = k .opened; chosen = λ x e. more x (k .chosen x e); low = k .low .1 }) (g .apart) (so .kept) in
         record {
-          inside = λ l e. ⊎-elim (so .inside l) (tops-live m law p l o) (or-cases (s l) (tops m p l) e);
+          inside = λ l e. ⊎-elim (so .inside l) (tops-live m law p l o) (or-cases (s l) (tops m p l) (ap (λ t. t l) (sym all) ∙ e));
           met = λ q oq.
               ⊎-elim (λ k. inl (wider q k))
               (λ e. ⊎-elim (λ is. inl (subst (Met (posed m) (h .chosen)) (sym (eqb-true q p is)) here)) inr (or-cases (eqb q p) (among q ps) e))
@@ -90,7 +91,7 @@ module _ (m : Meaning) (law : Lawful m) where
           kept = all-push (Kept m h ps) (g .apart) p others (record { opened = o; chosen = tops-in; low = low });
           apart = pairwise-push (Share (posed m) Never) (g .apart) p (so .apart)
               (all-weaker (Kept m g (p ∷ ps)) (λ a. Share (posed m) Never a p) (λ a k. tops-apart m law s a p (k .opened) o (k .low .0) (k .chosen) unmet) (g .apart) (so .kept));
-          few = omega (arith, so .few, tops-few m law p o, count-union s (tops m p) (m .highest), length-push (g .apart) p);
+          few = omega (arith, so .few, tops-few m law p o, count-union s (tops m p) (m .highest), ap (size (posed m)) all, length-push (g .apart) p);
         }
 
     pub sofar-more : Open (posed m) p → emptyRoad m p ≡ false → All (Lower m p) ps → Sofar m (takeUp m g p) ps

@@ -18,6 +18,7 @@ use Rattle.book.specs.Meaning.{Lawful, Meaning}
 use Rattle.book.specs.Posed.{posed}
 use Rattle.rough.proofs.Approximate.{rough-cut}
 use Rattle.rough.proofs.Lowest.{lowest-none}
+use Rattle.rough.proofs.Ordered.{one-order}
 use Rattle.rough.specs.Outcome.{Counts, emptyRoad, fitted, laid, lowest}
 use Rattle.rough.specs.Promise.{Promised, RoughCut}
 use Rattle.rough.specs.Run.{apartOf, linksOf}
@@ -57,4 +58,9 @@ promised m law e (Ok c) xs ys zs ws is left right =
     let a : take (c .0) zs ≡ ls = front (c .0) ls xs zs n left in
     let b : take (c .1) ws ≡ ps = front (c .1) ps ys ws k right in
     let cut = rough-cut m law (no-empty m law e) in
-    (ap length a ∙ sym n, ap length b ∙ sym k, subst (λ us. RoughCut m us (take (c .1) ws)) (sym a) (subst (λ vs. RoughCut m ls vs) (sym b) cut))
+    record {
+      order = one-order m law;
+      links = ap length a ∙ sym n;
+      pairs = ap length b ∙ sym k;
+      rough = subst (λ us. RoughCut m us (take (c .1) ws)) (sym a) (subst (λ vs. RoughCut m ls vs) (sym b) cut);
+    }

@@ -1,11 +1,9 @@
 -- Sets of links and pairs that an array marks.
 --     held-more     a link is marked
 --     held-top      the top link of a leg is marked
---     held-none     a leg without a link marks nothing
---     held-both     two legs one after the other
 --     held-less     a pair is no longer marked
 --     held-blank    a fresh array marks nothing
-use mathlib.Core.Bool.{Bool, true, false, not, and-true, or-assoc, or-false, or-true, _&&_, _||_}
+use mathlib.Core.Bool.{Bool, true, false, not, and-true, or-false, or-true, _&&_, _||_}
 use mathlib.Core.List.{List, [], _∷_}
 use mathlib.Core.Logic.{_≢_, ⊎-elim}
 use mathlib.Core.Path.{_≡_, refl, sym, ap, fun-ext, subst, _∙_}
@@ -39,9 +37,6 @@ module _ (xs : List Bool) (l : ℕ) (lt : l < length xs) where
   pub held-top : (ls : List ℕ) → nth ls 0 ≡ Some l → held (set xs l true) ≡ union (held xs) (top ls)
   held-top [] e = let z : _≡_ {A = ℕ} 0 1 = cc in absurd (omega arith)
   held-top (y ∷ ys) e = let s : l ≡ y = cc in held-more ∙ ap (λ k. union (held xs) (one k)) s
-
-pub held-both : (s t u : Links) → union (union s t) u ≡ union s (union t u)
-held-both s t u = fun-ext (λ x. or-assoc (s x) (t x) (u x))
 
 pub held-blank : (n : ℕ) → held (replicate n false) ≡ none
 held-blank n = fun-ext (λ x.

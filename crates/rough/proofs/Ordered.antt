@@ -37,5 +37,5 @@ module _ (m : Meaning) (law : Lawful m) where
       (all-weaker (λ p. m .opened p ≡ true) (λ p. (p < m .pairs) × (m .opened p ≡ true)) (λ p e. (law .opened-in p e, e)) ps (o .only-open))
       (λ p _ e. o .every-open p e)
 
-pub one-order : OneOrder
-one-order m law = (in-order m law, only-in-order m law)
+  pub one-order : OneOrder m
+  one-order = (in-order, only-in-order)

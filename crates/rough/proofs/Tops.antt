@@ -1,13 +1,15 @@
 -- The top links of a pair's legs.
+--     tops m p        the top links of both legs of p
+--     with-tops       choosing them one after the other chooses them all
 --     head-is-top     what stands first on a leg is one of the tops
 --     tops-live       the tops are live
 --     tops-few        and at most two
 --     tops-meet       they meet their own pair, if its road is not empty
 --     tops-apart      a pair whose rank is not the greater, and that no top of another meets, shares no link with it
-use mathlib.Core.Bool.{Bool, true, false, _&&_, _||_}
+use mathlib.Core.Bool.{Bool, true, false, or-assoc, _&&_, _||_}
 use mathlib.Core.List.{List, [], _∷_}
 use mathlib.Core.Logic.{⊎-elim}
-use mathlib.Core.Path.{_≡_, refl, sym, ap, subst, _∙_}
+use mathlib.Core.Path.{_≡_, refl, sym, ap, fun-ext, subst, _∙_}
 use Prim.Native.Nat.{ℕ, zero, suc, _≤_, zero-le}
 use native.Mathlib.Omega.{arith}
 use lib.Dec.{eqb}
@@ -15,7 +17,7 @@ use Rattle.std.specs.Finite.{nth}
 use Rattle.std.specs.declared.option.Option.the-variants.{None, Some}
 use Rattle.std.proofs.shelf.Tests.{and-cases, and-from, and-parts, both-ways, cond-true, eq-eqb, eqb-true, or-cases, or-left, or-right}
 use Rattle.cuts.specs.Instances.{Live, Met, On, Open, size}
-use Rattle.cuts.specs.Links.{In, Links, count}
+use Rattle.cuts.specs.Links.{In, Links, count, union}
 use Rattle.cuts.specs.Rules.{Never, Share}
 use Rattle.cuts.proofs.Counting.{count-empty, count-one, count-union}
 use Rattle.plan.specs.Tree.{among}
@@ -25,7 +27,7 @@ use Rattle.book.specs.Posed.{posed}
 use Rattle.book.specs.declared.leg.Leg.{Leg}
 use Rattle.book.specs.declared.leg.Leg.the-variants.{First, Second}
 use Rattle.rough.specs.Outcome.{emptyRoad, noLink}
-use Rattle.rough.specs.Run.{top, tops}
+use Rattle.rough.specs.Run.{top, withTops}
 
 head-top : (xs : List ℕ) (x : ℕ) → nth xs 0 ≡ Some x → top xs x ≡ true
 head-top [] x e = absurd (none-of-nil 0 x e)
@@ -47,6 +49,13 @@ some-link (y ∷ ys) e = (y, refl)
 few-top : (n : ℕ) (xs : List ℕ) → ((x : ℕ) → nth xs 0 ≡ Some x → (1 ≤ x) × (x ≤ n)) → count (top xs) n ≤ 1
 few-top n [] h = let e = count-empty (top []) (λ x. refl) n in omega arith
 few-top n (y ∷ ys) h = let (low, high) = h y refl in let e = count-one y n low high in omega arith
+
+-- the tops of both legs
+abbrev pub tops : Meaning → ℕ → Links
+tops m p = union (top (m .first p)) (top (m .second p))
+
+pub with-tops : (m : Meaning) (s : Links) (p : ℕ) → withTops m s p ≡ union s (tops m p)
+with-tops m s p = fun-ext (λ x. or-assoc (s x) (top (m .first p) x) (top (m .second p) x))
 
 module _ (m : Meaning) where
   pub head-is-top : (s : Leg) (p x : ℕ) → nth (legOf m s p) 0 ≡ Some x → In (tops m p) x

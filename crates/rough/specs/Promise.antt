@@ -2,10 +2,10 @@
 --     listedIn xs           the set of the links that stand in xs
 --     RoughCut m ls ps      ls is a cut, rising; ps are open pairs that share no link, two by two; so every cut has at least
 --                           as many links as ps has pairs, and ls has at most twice the links of any cut
---     Promised m r xs ys    where r is no refusal, its counts tell the front of each slice, and these are such a cut and
+--     OneOrder m            the open pairs stand in order in one way, and that is what the list inOrder is
+--     Laid m c xs ys        the order is that one; the counts c tell the fronts of two slices, and these are such a cut and
 --                           such pairs
---     OneOrder              the open pairs of a lawful book stand in order in one way, and that is what the list inOrder is
-use mathlib.Core.Bool.{Bool}
+--     Promised m r xs ys    so it is where the answer r is no refusal
 use mathlib.Core.List.{List}
 use mathlib.Core.Path.{_≡_}
 use Prim.Native.Nat.{ℕ, _*_, _<_, _≤_}
@@ -16,7 +16,7 @@ use Rattle.cuts.specs.Instances.{Cut, Open, size}
 use Rattle.cuts.specs.Links.{Links}
 use Rattle.cuts.specs.Rules.{Never, Pairwise, Share}
 use Rattle.plan.specs.Tree.{among}
-use Rattle.book.specs.Meaning.{Lawful, Meaning}
+use Rattle.book.specs.Meaning.{Meaning}
 use Rattle.book.specs.Posed.{posed}
 use Rattle.rough.specs.Order.{InOrder, inOrder}
 use Rattle.rough.specs.Outcome.{Counts}
@@ -33,10 +33,15 @@ pub record RoughCut (m : Meaning) (ls ps : List ℕ) : Type 0 where
   pub twice : length ls ≤ 2 * length ps
   pub at-most : (s : Links) → Cut (posed m) s → length ls ≤ 2 * size (posed m) s
 
-abbrev pub Promised : Meaning → Counts → List ℕ → List ℕ → Type 0
-Promised m (Ok c) xs ys =
-    (length (take (c .0) xs) ≡ c .0) × (length (take (c .1) ys) ≡ c .1) × RoughCut m (take (c .0) xs) (take (c .1) ys)
-Promised m (Err e) xs ys = Unit {0}
+abbrev pub OneOrder : Meaning → Type 0
+OneOrder m = InOrder m (inOrder m) × ((ps : List ℕ) → InOrder m ps → ps ≡ inOrder m)
 
-abbrev pub OneOrder : Type 0
-OneOrder = (m : Meaning) → Lawful m → InOrder m (inOrder m) × ((ps : List ℕ) → InOrder m ps → ps ≡ inOrder m)
+pub record Laid (m : Meaning) (c : ℕ × ℕ) (xs ys : List ℕ) : Type 0 where
+  pub order : OneOrder m
+  pub links : length (take (c .0) xs) ≡ c .0
+  pub pairs : length (take (c .1) ys) ≡ c .1
+  pub rough : RoughCut m (take (c .0) xs) (take (c .1) ys)
+
+abbrev pub Promised : Meaning → Counts → List ℕ → List ℕ → Type 0
+Promised m (Ok c) xs ys = Laid m c xs ys
+Promised m (Err e) xs ys = Unit {0}

@@ -1,6 +1,7 @@
 -- What a rough cut chooses and writes down.
 --     Gone              how far it has come: the links chosen, and the pairs written down as apart
---     tops m p          the top links of the legs of p, of each leg that has one
+--     top ls            the link at the top of a leg, if the leg has one
+--     withTops m s p    the links s and the tops of the two legs of p
 --     takeUp m g p      after the pair p: if no chosen link is on its road, it is written down and its tops are chosen
 --     goThrough m g ps  after the pairs ps, one after the other
 --     gone m            after all open pairs in their order, from no link and no pair
@@ -25,11 +26,11 @@ abbrev pub top : List ℕ → Links
 top [] x = false
 top (y ∷ ys) x = eqb x y
 
-abbrev pub tops : Meaning → ℕ → Links
-tops m p = union (top (m .first p)) (top (m .second p))
+abbrev pub withTops : Meaning → Links → ℕ → Links
+withTops m s p = union (union s (top (m .first p))) (top (m .second p))
 
 abbrev pub writtenDown : Meaning → Gone → ℕ → Gone
-writtenDown m g p = record { chosen = union (g .chosen) (tops m p); apart = g .apart ++ (p ∷ []) }
+writtenDown m g p = record { chosen = withTops m (g .chosen) p; apart = g .apart ++ (p ∷ []) }
 
 abbrev pub takeUp : Meaning → Gone → ℕ → Gone
 takeUp m g p = cond (meets (posed m) (g .chosen) p) g (writtenDown m g p)

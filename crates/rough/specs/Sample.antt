@@ -4,6 +4,7 @@
 --         3 4 5 6           pair 0 chooses 3 and 4, pair 2 chooses 5 and 6; the pairs 3 and 1 are met then
 --     IsSample p       p is this plan
 --     SampleCut m      what a rough cut of it writes and answers
+--     SampleFits c     as many links and pairs as the counts c are just what it writes
 use mathlib.Core.List.{[], _∷_}
 use mathlib.Core.Path.{_≡_}
 use Prim.Native.Nat.{ℕ}
@@ -27,13 +28,20 @@ pub record IsSample (p : Plan) : Type 0 where
   pub lower : (broaderOf p 3 ≡ 1) × (broaderOf p 4 ≡ 1) × (broaderOf p 5 ≡ 2) × (broaderOf p 6 ≡ 2)
   pub ends : Ends p 0 3 4 × Ends p 1 4 5 × Ends p 2 5 6 × Ends p 3 1 3
 
+-- slices of just so many places are filled
+abbrev pub Fits : Meaning → ℕ × ℕ → Type 0
+Fits m c = answer m (c .0) (c .1) ≡ Ok c
+
 pub record SampleCut (m : Meaning) : Type 0 where
   pub order : inOrder m ≡ 0 ∷ 2 ∷ 3 ∷ 1 ∷ []
   pub links : linksOf m ≡ 3 ∷ 4 ∷ 5 ∷ 6 ∷ []
   pub apart : apartOf m ≡ 0 ∷ 2 ∷ []
-  pub fits : answer m 4 2 ≡ Ok (4, 2)
+  pub fits : Fits m (4, 2)
   pub narrow : answer m 3 1 ≡ Err (LinksBuffer 4)
   pub short : answer m 4 1 ≡ Err (PairsBuffer 2)
 
 abbrev pub SampleIsCut : Type 0
 SampleIsCut = (p : Plan) → IsSample p → SampleCut (told p)
+
+abbrev pub SampleFits : ℕ × ℕ → Type 0
+SampleFits c = (p : Plan) → IsSample p → Fits (told p) c

@@ -7,12 +7,11 @@ mod order;
 mod refusals;
 mod roads;
 mod run;
-mod theorems;
+mod sample;
 
 pub use call::rough;
 pub use fault::RoughFault;
 pub use fault::RoughFaultDebug;
 pub use fault::RoughFaultEq;
 pub use fault::RoughFaultPartialEq;
-pub use theorems::pairs_have_one_order;
-pub use theorems::sample_is_cut;
+pub use sample::sample_counts;

@@ -9,7 +9,7 @@ use Rattle.rough.specs.Order.{earlier, inOrder, sorted}
 use Rattle.rough.specs.Run.{Gone, goThrough, noneGone, takeUp}
 use Rattle.rough.proofs.Marking.{held-blank, held-less}
 use Rattle.rough.proofs.Sorting.{length-sorted, sorted-done}
-use Rattle.rough.proofs.Turns.{first-order, listed-long, next-turn, same-gone, take-up-longer}
+use Rattle.rough.proofs.Turns.{first-order, listed-long, next-turn, same-gone, take-up-longer, taken-up}
 use Rattle.rough.proofs.run.go_through.Needs as need
 
 pub loop-pair-holds : need.loop-pair-holds
@@ -56,9 +56,11 @@ loop-pair-again g c =
     let behind = sorted order (held (set left p false)) (c .pairs-pairs .result) in
     let before = goneBy (c .loop-pair .chosen) (c .loop-pair .apart) in
     let (so-far, short, opened, long) = c .loop-pair .inv in
-    let (lt, here, is) = next-turn (c .ranks-of-ranks .result) left (c .pairs-pairs .result) p long few (c .in-Some .ensures tt) in (
-      ap (λ h. goThrough m h behind) (c .take-up .ensures) ∙ ap (goThrough m before) (sym is) ∙ so-far,
-      omega (arith, ap length is, ap (λ h. length (h .apart)) (c .take-up .ensures), take-up-longer m before p, listed-long (c .take-up .last .apart), listed-long (c .loop-pair .apart)),
+    let (lt, here, is) = next-turn (c .ranks-of-ranks .result) left (c .pairs-pairs .result) p long few (c .in-Some .ensures tt) in
+    let after = goneBy (c .take-up .last .chosen) (c .take-up .last .apart) in
+    let turn : after ≡ takeUp m before p = taken-up m before after p (c .take-up .ensures .chosen) (c .take-up .ensures .apart) in (
+      ap (λ h. goThrough m h behind) turn ∙ ap (goThrough m before) (sym is) ∙ so-far,
+      omega (arith, ap length is, ap (λ h. length (h .apart)) turn, take-up-longer m before p, listed-long (c .take-up .last .apart), listed-long (c .loop-pair .apart)),
       λ q e. opened q (less-in (held left) p q (ap (λ s. s q) (sym (held-less left p (omega arith))) ∙ e)),
       length-set left p false ∙ long,
     )
