@@ -3,8 +3,8 @@
 use mathlib.Core.Bool.{true, false}
 use mathlib.Core.List.{[]}
 use mathlib.Core.Logic.{⊎-elim}
-use mathlib.Core.Path.{_≡_, refl, sym, ap, subst, _∙_}
-use Prim.Native.Nat.{ℕ, suc, _+_, _*_, _<_, _≤_}
+use mathlib.Core.Path.{_≡_, sym, subst}
+use Prim.Native.Nat.{ℕ, _+_, _*_, _<_, _≤_}
 use native.Mathlib.Numerals.{add-one}
 use native.Mathlib.Omega.{arith}
 use lib.ListN.{length}
@@ -22,7 +22,7 @@ use Rattle.rough.proofs.Rising.{all-rising, among-rising, length-rising, pairw
 use Rattle.rough.proofs.Sorting.{all-among}
 use Rattle.rough.specs.Order.{inOrder}
 use Rattle.rough.specs.Outcome.{emptyRoad}
-use Rattle.rough.specs.Promise.{RoughCut, listedIn}
+use Rattle.rough.specs.Promise.{RoughCut}
 use Rattle.rough.specs.Run.{apartOf, gone, linksOf, noneGone, rising}
 
 module _ (m : Meaning) (law : Lawful m) (full : (p : ℕ) → Open (posed m) p → emptyRoad m p ≡ false) where

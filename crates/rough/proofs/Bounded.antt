@@ -1,7 +1,7 @@
 -- From 256 on a lawful book has nothing.
 --     none-open      no pair is open
 --     none-ranked    and none has a rank
-use mathlib.Core.Bool.{true, false}
+use mathlib.Core.Bool.{false}
 use mathlib.Core.Logic.{⊎-elim}
 use mathlib.Core.Path.{_≡_}
 use Prim.Native.Nat.{ℕ, _≤_}

@@ -4,13 +4,13 @@ pub mod Drawn
 pub mod Earlier
 pub mod Filling
 pub mod Going
-pub mod Kept
+pub mod Laying
 pub mod Lowest
+pub mod Marking
 pub mod Nearest
 pub mod Ordered
 pub mod Pairs
 pub mod Rising
-pub mod Marking
 pub mod Somewhere
 pub mod Sorting
 pub mod Tops

@@ -5,17 +5,17 @@
 --     held-blank    a fresh array marks nothing
 use mathlib.Core.Bool.{Bool, true, false, not, and-true, or-false, or-true, _&&_, _||_}
 use mathlib.Core.List.{List, [], _∷_}
-use mathlib.Core.Logic.{_≢_, ⊎-elim}
-use mathlib.Core.Path.{_≡_, refl, sym, ap, fun-ext, subst, _∙_}
+use mathlib.Core.Logic.{⊎-elim}
+use mathlib.Core.Path.{_≡_, sym, ap, fun-ext, _∙_}
 use Prim.Native.Nat.{ℕ, _<_}
 use native.Mathlib.Omega.{arith}
 use lib.Dec.{eqb}
-use lib.ListN.{getD, length, replicate, set}
+use lib.ListN.{length, replicate, set}
 use Rattle.std.specs.Finite.{nth}
-use Rattle.std.specs.declared.option.Option.the-variants.{None, Some}
+use Rattle.std.specs.declared.option.Option.the-variants.{Some}
 use Rattle.std.proofs.shelf.Lists.{getD-past, getD-replicate, getD-set-other, getD-set-same, length-replicate}
 use Rattle.std.proofs.shelf.Tests.{and-right, cases-eq, cases-lt, eq-eqb, ne-eqb, not-from-false, not-from-true}
-use Rattle.cuts.specs.Links.{Links, less, none, one, union}
+use Rattle.cuts.specs.Links.{less, none, one, union}
 use Rattle.rough.specs.Arrays.{held}
 use Rattle.rough.specs.Run.{top}
 

@@ -5,9 +5,7 @@ use mathlib.Core.Bool.{true}
 use mathlib.Core.List.{List}
 use mathlib.Core.Path.{_≡_}
 use Prim.Native.Nat.{ℕ, _<_}
-use Rattle.std.specs.shelf.Lists.{All}
 use Rattle.std.proofs.shelf.Elements.{all-weaker}
-use Rattle.cuts.specs.Rules.{Pairwise}
 use Rattle.cuts.proofs.Bound.{pairwise-weaker}
 use Rattle.book.specs.Meaning.{Lawful, Meaning, rankAt}
 use Rattle.rough.proofs.Earlier.{earlier-decided, earlier-not, earlier-other, earlier-through}

@@ -3,8 +3,10 @@
 --     among-rising      and each such number is among them
 --     pairwise-rising   they rise
 --     length-rising     they are as many as the set has links, if it has not the number 0
---     longer-rising     a higher bound leaves none out
-use mathlib.Core.Bool.{Bool, true, false, cond, _||_}
+--     rising-push       one number more that the set has
+--     rising-skip       and one that it has not
+--     rising-short      below n there are at most n
+use mathlib.Core.Bool.{true, false}
 use mathlib.Core.List.{List, [], _∷_, _++_}
 use mathlib.Core.Logic.{⊎-elim}
 use mathlib.Core.Path.{_≡_, refl, sym, ap, subst, _∙_}

@@ -1,7 +1,7 @@
 -- Whether a test has some number below a bound, as a loop finds it.
 --     some-more     none so far, and not here
 --     some-found    one that it has decides
-use mathlib.Core.Bool.{Bool, true, false, _||_}
+use mathlib.Core.Bool.{Bool, true, false}
 use mathlib.Core.Logic.{⊎-elim}
 use mathlib.Core.Path.{_≡_, sym, ap, _∙_}
 use Prim.Native.Nat.{ℕ, zero, suc, _+_, _<_}

@@ -17,7 +17,7 @@ use Rattle.std.specs.Finite.{nth}
 use Rattle.std.specs.declared.option.Option.the-variants.{None, Some}
 use Rattle.std.specs.shelf.Lists.{All}
 use Rattle.std.proofs.shelf.Elements.{all-weaker}
-use Rattle.std.proofs.shelf.Tests.{and-left, both-ways, cases-bool, cases-eq, cond-both, cond-false, cond-true, eq-eqb, eqb-true, ne-eqb, or-cases, or-left, or-right}
+use Rattle.std.proofs.shelf.Tests.{and-left, both-ways, cases-bool, cases-eq, cond-both, cond-false, cond-true, eq-eqb, eqb-true, or-cases, or-left, or-right}
 use Rattle.cuts.specs.Links.{less}
 use Rattle.cuts.specs.Rules.{Pairwise}
 use Rattle.cuts.proofs.Counting.{less-from, less-in, less-other}

@@ -6,15 +6,14 @@
 --     tops-few        and at most two
 --     tops-meet       they meet their own pair, if its road is not empty
 --     tops-apart      a pair whose rank is not the greater, and that no top of another meets, shares no link with it
-use mathlib.Core.Bool.{Bool, true, false, or-assoc, _&&_, _||_}
+use mathlib.Core.Bool.{true, false, or-assoc, _&&_, _||_}
 use mathlib.Core.List.{List, [], _∷_}
 use mathlib.Core.Logic.{⊎-elim}
-use mathlib.Core.Path.{_≡_, refl, sym, ap, fun-ext, subst, _∙_}
-use Prim.Native.Nat.{ℕ, zero, suc, _≤_, zero-le}
+use mathlib.Core.Path.{_≡_, refl, sym, ap, fun-ext}
+use Prim.Native.Nat.{ℕ, _≤_, zero-le}
 use native.Mathlib.Omega.{arith}
-use lib.Dec.{eqb}
 use Rattle.std.specs.Finite.{nth}
-use Rattle.std.specs.declared.option.Option.the-variants.{None, Some}
+use Rattle.std.specs.declared.option.Option.the-variants.{Some}
 use Rattle.std.proofs.shelf.Tests.{and-cases, and-from, and-parts, both-ways, cond-true, eq-eqb, eqb-true, or-cases, or-left, or-right}
 use Rattle.cuts.specs.Instances.{Live, Met, On, Open, size}
 use Rattle.cuts.specs.Links.{In, Links, count, union}
@@ -22,7 +21,7 @@ use Rattle.cuts.specs.Rules.{Never, Share}
 use Rattle.cuts.proofs.Counting.{count-empty, count-one, count-union}
 use Rattle.plan.specs.Tree.{among}
 use Rattle.plan.proofs.Members.{among-at, at-among, none-of-nil}
-use Rattle.book.specs.Meaning.{Lawful, Meaning, legOf, onRoad, rankAt}
+use Rattle.book.specs.Meaning.{Lawful, Meaning, legOf, rankAt}
 use Rattle.book.specs.Posed.{posed}
 use Rattle.book.specs.declared.leg.Leg.{Leg}
 use Rattle.book.specs.declared.leg.Leg.the-variants.{First, Second}

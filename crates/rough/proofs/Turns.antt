@@ -7,21 +7,20 @@
 --     next-turn        the first of the pairs left, and what is left behind it
 use mathlib.Core.Bool.{Bool, true, false, cond}
 use mathlib.Core.List.{List, [], _∷_, _++_}
-use mathlib.Core.Path.{_≡_, refl, sym, ap, fun-ext, subst, _∙_}
+use mathlib.Core.Path.{_≡_, refl, sym, ap, fun-ext, _∙_}
 use Prim.Native.Nat.{ℕ, _+_, _<_, _≤_}
 use native.Mathlib.Omega.{arith}
 use lib.ListN.{length, set}
 use Rattle.std.specs.declared.option.Option.the-variants.{Some}
 use Rattle.std.proofs.shelf.Lists.{length-push, length-take-le}
 use Rattle.std.proofs.shelf.Tests.{cond-both}
-use Rattle.cuts.specs.Links.{less}
 use Rattle.cuts.specs.Search.{meets}
-use Rattle.book.specs.Meaning.{Meaning, rankAt}
+use Rattle.book.specs.Meaning.{Lawful, Meaning, rankAt}
 use Rattle.book.specs.Posed.{posed}
 use Rattle.rough.proofs.Earlier.{earlier-not, earlier-other, earlier-through}
 use Rattle.rough.proofs.Marking.{held-less}
 use Rattle.rough.proofs.Sorting.{sorted-next}
-use Rattle.rough.specs.Arrays.{goneBy, held, listed, numbered}
+use Rattle.rough.specs.Arrays.{held, listed, numbered}
 use Rattle.rough.specs.Order.{earlier, firstOf, inOrder, sorted}
 use Rattle.rough.specs.Run.{Gone, takeUp, withTops, writtenDown}
 use Rattle.rough.specs.declared.listed.Listed.{Listed}
@@ -57,10 +56,12 @@ first-order m ranks left e f =
     ap (λ r. sorted (earlier r) (held left) (m .pairs)) (fun-ext e) ∙ ap (λ s. sorted (earlier (rankAt m)) s (m .pairs)) (fun-ext f)
 
 pub next-turn :
-    (ranks : List ℕ) (left : List Bool) (n p : ℕ) → length left ≡ 256 → n ≤ 256 → Some p ≡ firstOf (earlier (numbered ranks)) (held left) n →
-    (p < n) × (held left p ≡ true) ×
+    (m : Meaning) → Lawful m → (ranks : List ℕ) (left : List Bool) (n p : ℕ) → n ≡ m .pairs → length left ≡ 256 →
+    Some p ≡ firstOf (earlier (numbered ranks)) (held left) n →
+    (p < 256) × (held left p ≡ true) ×
     (sorted (earlier (numbered ranks)) (held left) n ≡ p ∷ sorted (earlier (numbered ranks)) (held (set left p false)) n)
-next-turn ranks left n p long few e =
+next-turn m law ranks left n p all long e =
     let r = numbered ranks in
     let (lt, here, is) = sorted-next (earlier r) (earlier-not r) (earlier-other r) (earlier-through r) (held left) n p (sym e) in
-    (lt, here, is ∙ ap (λ s. p ∷ sorted (earlier r) s n) (sym (held-less left p (omega arith))))
+    let low : p < 256 = omega (arith, law .few-pairs) in
+    (low, here, is ∙ ap (λ s. p ∷ sorted (earlier r) s n) (sym (held-less left p (omega arith))))

@@ -8,7 +8,7 @@
 --     rising s n        the numbers below n that s has, from the lowest up
 --     linksOf m         the links that a rough cut writes
 --     apartOf m         the pairs that it writes, in the order written down
-use mathlib.Core.Bool.{Bool, false, cond, _||_}
+use mathlib.Core.Bool.{false, cond}
 use mathlib.Core.List.{List, [], _∷_, _++_}
 use Prim.Native.Nat.{ℕ, zero, suc, _+_}
 use lib.Dec.{eqb}

@@ -1,5 +1,5 @@
 // The rough cut of a book.
-ghost use Prim.Native.Nat.{ℕ, _+_, _≤_};
+ghost use Prim.Native.Nat.{_+_, _≤_};
 ghost use Rattle.rough.specs.Arrays.{held, listed};
 ghost use Rattle.rough.specs.Outcome.{answer, fitted, laid};
 ghost use Rattle.rough.specs.Promise.{Promised};

@@ -1,5 +1,5 @@
 // Writes numbers into a list, and the list into a slice.
-ghost use Prim.Native.Nat.{ℕ, _<_, _≤_};
+ghost use Prim.Native.Nat.{_<_, _≤_};
 ghost use Rattle.rough.specs.Arrays.{laidInto, listed};
 ghost use lib.ListN.{length};
 ghost use mathlib.Core.List.{[], _∷_, _++_};

@@ -1,5 +1,4 @@
 // What a rough cut asks of the roads of a book.
-ghost use Prim.Native.Nat.{ℕ};
 ghost use Rattle.book.specs.Posed.{posed};
 ghost use Rattle.cuts.specs.Search.{meets};
 ghost use Rattle.rough.specs.Arrays.{held};

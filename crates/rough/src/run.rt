@@ -1,5 +1,5 @@
 // Goes through the open pairs in their order.
-ghost use Prim.Native.Nat.{ℕ, _<_};
+ghost use Prim.Native.Nat.{_<_};
 ghost use Rattle.book.specs.Meaning.{legOf, linkAt};
 ghost use Rattle.book.specs.Posed.{posed};
 ghost use Rattle.cuts.specs.Links.{union};

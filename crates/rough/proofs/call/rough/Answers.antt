@@ -4,7 +4,7 @@ use mathlib.Core.Path.{_≡_, sym, ap, _∙_}
 use Rattle.rough.specs.Arrays.{goneBy, held, listed}
 use Rattle.rough.specs.Outcome.{fitted, laid, unlessEmpty}
 use Rattle.rough.specs.Run.{apartOf, gone, linksOf, rising}
-use Rattle.rough.proofs.Kept.{promised}
+use Rattle.rough.proofs.Laying.{promised}
 use Rattle.rough.proofs.call.rough.Needs as need
 
 pub returns : need.returns

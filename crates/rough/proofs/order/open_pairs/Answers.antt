@@ -1,8 +1,7 @@
-use Prim.Native.Nat.{ℕ, _<_, _≤_}
 use denote.Ref.{now}
 use lib.ListN.{length-set}
-use mathlib.Core.Bool.{Bool, false}
-use mathlib.Core.Path.{_≡_, _∙_}
+use mathlib.Core.Bool.{false}
+use mathlib.Core.Path.{_∙_}
 use native.Mathlib.Omega.{arith}
 use Rattle.rough.proofs.Bounded.{none-open}
 use Rattle.rough.proofs.Filling.{fill-all, fill-more}

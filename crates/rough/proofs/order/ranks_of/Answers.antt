@@ -1,7 +1,6 @@
-use Prim.Native.Nat.{ℕ, _<_, _≤_}
 use denote.Ref.{now}
 use lib.ListN.{length-set}
-use mathlib.Core.Path.{_≡_, _∙_}
+use mathlib.Core.Path.{_∙_}
 use native.Mathlib.Omega.{arith}
 use Rattle.book.specs.Meaning.{rankAt}
 use Rattle.rough.proofs.Bounded.{none-ranked}

@@ -1,5 +1,5 @@
 use Prim.Native.Nat.{_+_, _<_}
-use mathlib.Core.Path.{_≡_, sym}
+use mathlib.Core.Path.{sym}
 use native.Mathlib.Omega.{arith}
 use Rattle.std.proofs.shelf.Tests.{and-from, and-left, and-right}
 use Rattle.cuts.specs.Search.{meetsBy}

@@ -1,5 +1,5 @@
 use Prim.Native.Nat.{_<_}
-use mathlib.Core.Path.{_≡_, sym}
+use mathlib.Core.Path.{sym}
 use native.Mathlib.Omega.{arith}
 use Rattle.rough.specs.Outcome.{emptyRoad}
 use Rattle.rough.proofs.Lowest.{lowest-found, lowest-more}

@@ -1,5 +1,3 @@
-use Prim.Native.Nat.{_<_}
-use lib.ListN.{length}
 use mathlib.Core.Path.{_≡_, sym, _∙_}
 use native.Mathlib.Omega.{arith}
 use Rattle.std.specs.Finite.{nth}

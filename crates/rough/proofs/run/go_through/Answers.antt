@@ -1,12 +1,12 @@
-use Prim.Native.Nat.{_+_, _≤_}
+use Prim.Native.Nat.{_≤_}
 use lib.ListN.{length, length-set, replicate, set}
-use mathlib.Core.Bool.{Bool, false, true}
-use mathlib.Core.Path.{_≡_, sym, ap, subst, _∙_}
+use mathlib.Core.Bool.{false}
+use mathlib.Core.Path.{_≡_, sym, ap, _∙_}
 use native.Mathlib.Omega.{arith}
 use Rattle.cuts.proofs.Counting.{less-in}
-use Rattle.rough.specs.Arrays.{goneBy, held, listed, numbered}
+use Rattle.rough.specs.Arrays.{goneBy, held, numbered}
 use Rattle.rough.specs.Order.{earlier, inOrder, sorted}
-use Rattle.rough.specs.Run.{Gone, goThrough, noneGone, takeUp}
+use Rattle.rough.specs.Run.{goThrough, noneGone, takeUp}
 use Rattle.rough.proofs.Marking.{held-blank, held-less}
 use Rattle.rough.proofs.Sorting.{length-sorted, sorted-done}
 use Rattle.rough.proofs.Turns.{first-order, listed-long, next-turn, same-gone, take-up-longer, taken-up}
@@ -34,29 +34,26 @@ first-left-requires g c κs = omega (arith, c .pairs-pairs .ensures, g .B·RoadB
 pub index-left-pair : need.index-left-pair
 index-left-pair g c =
     let b = c .args .book .now in
-    let few : c .pairs-pairs .result ≤ 256 = omega (arith, c .pairs-pairs .ensures, g .B·RoadBook .lawful b .few-pairs) in
-    let (lt, _, _) = next-turn (c .ranks-of-ranks .result) (c .loop-pair .left) (c .pairs-pairs .result) (c .in-Some .pair) (c .loop-pair .inv .3) few (c .in-Some .ensures tt) in
+    let (low, _, _) = next-turn (g .B·RoadBook .meaning b) (g .B·RoadBook .lawful b) (c .ranks-of-ranks .result) (c .loop-pair .left) (c .pairs-pairs .result) (c .in-Some .pair) (c .pairs-pairs .ensures) (c .loop-pair .inv .3) (c .in-Some .ensures tt) in
     omega arith
 
 pub take-up-requires : need.take-up-requires
 take-up-requires g c κs =
     let b = c .args .book .now in
-    let few : c .pairs-pairs .result ≤ 256 = omega (arith, c .pairs-pairs .ensures, g .B·RoadBook .lawful b .few-pairs) in
-    let (_, here, is) = next-turn (c .ranks-of-ranks .result) (c .loop-pair .left) (c .pairs-pairs .result) (c .in-Some .pair) (c .loop-pair .inv .3) few (c .in-Some .ensures tt) in
+    let (_, here, is) = next-turn (g .B·RoadBook .meaning b) (g .B·RoadBook .lawful b) (c .ranks-of-ranks .result) (c .loop-pair .left) (c .pairs-pairs .result) (c .in-Some .pair) (c .pairs-pairs .ensures) (c .loop-pair .inv .3) (c .in-Some .ensures tt) in
     record { opened = c .loop-pair .inv .2 (c .in-Some .pair) here; room = omega (arith, c .loop-pair .inv .1, ap length is) }
 
 pub loop-pair-again : need.loop-pair-again
 loop-pair-again g c =
     let b = c .args .book .now in
     let m = g .B·RoadBook .meaning b in
-    let few : c .pairs-pairs .result ≤ 256 = omega (arith, c .pairs-pairs .ensures, g .B·RoadBook .lawful b .few-pairs) in
     let left = c .loop-pair .left in
     let p = c .in-Some .pair in
     let order = earlier (numbered (c .ranks-of-ranks .result)) in
     let behind = sorted order (held (set left p false)) (c .pairs-pairs .result) in
     let before = goneBy (c .loop-pair .chosen) (c .loop-pair .apart) in
     let (so-far, short, opened, long) = c .loop-pair .inv in
-    let (lt, here, is) = next-turn (c .ranks-of-ranks .result) left (c .pairs-pairs .result) p long few (c .in-Some .ensures tt) in
+    let (lt, here, is) = next-turn m (g .B·RoadBook .lawful b) (c .ranks-of-ranks .result) left (c .pairs-pairs .result) p (c .pairs-pairs .ensures) long (c .in-Some .ensures tt) in
     let after = goneBy (c .take-up .last .chosen) (c .take-up .last .apart) in
     let turn : after ≡ takeUp m before p = taken-up m before after p (c .take-up .ensures .chosen) (c .take-up .ensures .apart) in (
       ap (λ h. goThrough m h behind) turn ∙ ap (goThrough m before) (sym is) ∙ so-far,
@@ -68,8 +65,7 @@ loop-pair-again g c =
 pub loop-pair-less : need.loop-pair-less
 loop-pair-less g c =
     let b = c .args .book .now in
-    let few : c .pairs-pairs .result ≤ 256 = omega (arith, c .pairs-pairs .ensures, g .B·RoadBook .lawful b .few-pairs) in
-    let (lt, here, is) = next-turn (c .ranks-of-ranks .result) (c .loop-pair .left) (c .pairs-pairs .result) (c .in-Some .pair) (c .loop-pair .inv .3) few (c .in-Some .ensures tt) in
+    let (lt, here, is) = next-turn (g .B·RoadBook .meaning b) (g .B·RoadBook .lawful b) (c .ranks-of-ranks .result) (c .loop-pair .left) (c .pairs-pairs .result) (c .in-Some .pair) (c .pairs-pairs .ensures) (c .loop-pair .inv .3) (c .in-Some .ensures tt) in
     omega (arith, ap length is)
 
 pub returns : need.returns

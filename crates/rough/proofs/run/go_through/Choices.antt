@@ -2,7 +2,7 @@ use Prim.Native.Nat.{ℕ, _+_, _≤_}
 use lib.ListN.{length}
 use mathlib.Core.Bool.{true}
 use mathlib.Core.Path.{_≡_}
-use Rattle.rough.specs.Arrays.{goneBy, held, listed, numbered}
+use Rattle.rough.specs.Arrays.{goneBy, held, numbered}
 use Rattle.rough.specs.Order.{earlier, sorted}
 use Rattle.rough.specs.Run.{goThrough, gone}
 use Rattle.rough.proofs.run.go_through.Given as given

@@ -1,7 +1,7 @@
 -- What a rough cut lays into the slices keeps its promise.
 --     no-empty     where no empty road is found, there is none
 --     promised     the promise, from the answer and the two slices
-use mathlib.Core.Bool.{Bool, true, false, cond}
+use mathlib.Core.Bool.{false, cond}
 use mathlib.Core.List.{List, _++_}
 use mathlib.Core.Logic.{⊎-elim}
 use mathlib.Core.Path.{_≡_, refl, sym, ap, subst, _∙_}
