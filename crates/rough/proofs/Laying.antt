@@ -22,7 +22,7 @@ use Rattle.rough.proofs.Ordered.{one-order}
 use Rattle.rough.specs.Outcome.{Counts, emptyRoad, fitted, laid, lowest}
 use Rattle.rough.specs.Promise.{Promised, RoughCut}
 use Rattle.rough.specs.Run.{apartOf, linksOf}
-use Rattle.rough.specs.declared.fault.RoughFault.the-variants.{LinksBuffer, PairsBuffer}
+use Rattle.rough.specs.declared.fault.RoughFault.the-variants.{EmptyRoad, LinksBuffer, PairsBuffer}
 
 pub no-empty : (m : Meaning) → Lawful m → lowest (emptyRoad m) (m .pairs) ≡ None → (p : ℕ) → Open (posed m) p → emptyRoad m p ≡ false
 no-empty m law e p o = lowest-none (emptyRoad m) (m .pairs) e p (law .opened-in p o)
@@ -43,6 +43,23 @@ fitted-ok ls ps a b c e =
     (cases-bool t))
     (cases-bool s)
 
+-- an empty road is not refused for its slices
+fitted-err : (ls ps : List ℕ) (a b p : ℕ) → Err (EmptyRoad p) ≡ fitted ls ps a b → ⊥
+fitted-err ls ps a b p e =
+    let s = ltb a (length ls) in
+    let t = ltb b (length ps) in
+    let whole : Counts = Ok (length ls, length ps) in
+    let inner : Counts = cond t (Err (PairsBuffer (length ps))) whole in
+    ⊎-elim
+    (λ h. let f = e ∙ cond-true s (Err (LinksBuffer (length ls))) inner h in let z : _≡_ {A = ℕ} 0 1 = cc in omega arith)
+    (λ h.
+    let f = e ∙ cond-false s (Err (LinksBuffer (length ls))) inner h in
+    ⊎-elim
+    (λ k. let d = f ∙ cond-true t (Err (PairsBuffer (length ps))) whole k in let z : _≡_ {A = ℕ} 0 1 = cc in omega arith)
+    (λ k. let d = f ∙ cond-false t (Err (PairsBuffer (length ps))) whole k in let z : _≡_ {A = ℕ} 0 1 = cc in omega arith)
+    (cases-bool t))
+    (cases-bool s)
+
 -- the front of a slice into which a list was laid is that list
 front : (n : ℕ) (ls xs zs : List ℕ) → n ≡ length ls → zs ≡ ls ++ drop (length ls) xs → take n zs ≡ ls
 front n ls xs zs e f = ap (λ k. take k zs) e ∙ ap (take (length ls)) f ∙ take-at ls (drop (length ls) xs) (length ls) refl
@@ -50,7 +67,9 @@ front n ls xs zs e f = ap (λ k. take k zs) e ∙ ap (take (length ls)) f ∙ ta
 pub promised :
     (m : Meaning) → Lawful m → lowest (emptyRoad m) (m .pairs) ≡ None → (r : Counts) (xs ys zs ws : List ℕ) →
     r ≡ fitted (linksOf m) (apartOf m) (length xs) (length ys) → zs ≡ laid r (linksOf m) xs → ws ≡ laid r (apartOf m) ys → Promised m r zs ws
-promised m law e (Err f) xs ys zs ws is left right = tt
+promised m law e (Err (EmptyRoad p)) xs ys zs ws is left right = absurd (fitted-err (linksOf m) (apartOf m) (length xs) (length ys) p is)
+promised m law e (Err (LinksBuffer n)) xs ys zs ws is left right = tt
+promised m law e (Err (PairsBuffer n)) xs ys zs ws is left right = tt
 promised m law e (Ok c) xs ys zs ws is left right =
     let ls = linksOf m in
     let ps = apartOf m in

@@ -4,6 +4,7 @@ pub mod Drawn
 pub mod Earlier
 pub mod Filling
 pub mod Going
+pub mod Hopeless
 pub mod Laying
 pub mod Lowest
 pub mod Marking

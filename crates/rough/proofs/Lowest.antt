@@ -2,8 +2,9 @@
 --     lowest-more     none so far, and not here
 --     lowest-found    none so far, and here: then it is the lowest below any higher bound
 --     lowest-none     where there is none, each number fails the test
+--     lowest-some     where there is one, it passes and each lower number fails
 use mathlib.Core.Bool.{Bool, true, false, cond}
-use mathlib.Core.Logic.{⊎-elim}
+use mathlib.Core.Logic.{_⊎_, inl, inr, ⊎-elim}
 use mathlib.Core.Path.{_≡_, refl, sym, ap, _∙_}
 use Prim.Native.Nat.{ℕ, zero, suc, _+_, _<_}
 use native.Mathlib.Numerals.{add-one}
@@ -17,6 +18,11 @@ none-of : (o : Option ℕ) (t : Bool) (n : ℕ) → foundOr o t n ≡ None → (
 none-of (Some p) t n e = let z : _≡_ {A = ℕ} 0 1 = cc in absurd (omega arith)
 none-of None true n e = let z : _≡_ {A = ℕ} 0 1 = cc in absurd (omega arith)
 none-of None false n e = (refl, refl)
+
+some-of : (o : Option ℕ) (t : Bool) (n p : ℕ) → foundOr o t n ≡ Some p → (o ≡ Some p) ⊎ ((o ≡ None) × (t ≡ true) × (n ≡ p))
+some-of (Some q) t n p e = inl e
+some-of None true n p e = let is : n ≡ p = cc in inr (refl, refl, is)
+some-of None false n p e = let z : _≡_ {A = ℕ} 0 1 = cc in absurd (omega arith)
 
 module _ (f : ℕ → Bool) where
   pub lowest-more : (n : ℕ) → lowest f n ≡ None → f n ≡ false → lowest f (n + 1) ≡ None
@@ -38,3 +44,11 @@ module _ (f : ℕ → Bool) where
   lowest-none (suc n) e p lt =
       let (before, here) = none-of (lowest f n) (f n) n e in
       ⊎-elim (λ is. ap f is ∙ here) (λ ne. lowest-none n before p (omega (arith, ne))) (cases-eq p n)
+
+  pub lowest-some : (n p : ℕ) → lowest f n ≡ Some p → (f p ≡ true) × ((q : ℕ) → q < p → f q ≡ false)
+  lowest-some zero p e = let z : _≡_ {A = ℕ} 0 1 = cc in absurd (omega arith)
+  lowest-some (suc n) p e =
+      ⊎-elim
+      (λ before. lowest-some n p before)
+      (λ (none, here, is). (ap f (sym is) ∙ here, λ q lt. lowest-none n none q (omega arith)))
+      (some-of (lowest f n) (f n) n p e)

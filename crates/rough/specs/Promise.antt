@@ -5,14 +5,15 @@
 --     OneOrder m            the open pairs stand in order in one way, and that is what the list inOrder is
 --     Laid m c xs ys        the order is that one; the counts c tell the fronts of two slices, and these are such a cut and
 --                           such pairs
---     Promised m r xs ys    so it is where the answer r is no refusal
+--     LowestEmpty m p       p is the lowest open pair with no link on its road, and so there is no cut at all
+--     Promised m r xs ys    the first where the answer r is no refusal, the second where r refuses an empty road
 use mathlib.Core.List.{List}
 use mathlib.Core.Path.{_≡_}
 use Prim.Native.Nat.{ℕ, _*_, _<_, _≤_}
 use lib.ListN.{length, take}
 use Rattle.std.specs.declared.result.Result.the-variants.{Err, Ok}
 use Rattle.std.specs.shelf.Lists.{All}
-use Rattle.cuts.specs.Instances.{Cut, Open, size}
+use Rattle.cuts.specs.Instances.{Cut, On, Open, size}
 use Rattle.cuts.specs.Links.{Links}
 use Rattle.cuts.specs.Rules.{Never, Pairwise, Share}
 use Rattle.plan.specs.Tree.{among}
@@ -20,6 +21,8 @@ use Rattle.book.specs.Meaning.{Meaning}
 use Rattle.book.specs.Posed.{posed}
 use Rattle.rough.specs.Order.{InOrder, inOrder}
 use Rattle.rough.specs.Outcome.{Counts}
+use Rattle.rough.specs.declared.fault.RoughFault.{RoughFault}
+use Rattle.rough.specs.declared.fault.RoughFault.the-variants.{EmptyRoad, LinksBuffer, PairsBuffer}
 
 abbrev pub listedIn : List ℕ → Links
 listedIn xs l = among l xs
@@ -42,6 +45,17 @@ pub record Laid (m : Meaning) (c : ℕ × ℕ) (xs ys : List ℕ) : Type 0 where
   pub pairs : length (take (c .1) ys) ≡ c .1
   pub rough : RoughCut m (take (c .0) xs) (take (c .1) ys)
 
+pub record LowestEmpty (m : Meaning) (p : ℕ) : Type 0 where
+  pub opened : Open (posed m) p
+  pub empty : (l : ℕ) → On (posed m) l p → ⊥
+  pub lower : (q : ℕ) → q < p → Open (posed m) q → (l : ℕ) × On (posed m) l q
+  pub no-cut : (s : Links) → Cut (posed m) s → ⊥
+
+abbrev pub Refused : Meaning → RoughFault → Type 0
+Refused m (EmptyRoad p) = LowestEmpty m p
+Refused m (LinksBuffer n) = Unit {0}
+Refused m (PairsBuffer n) = Unit {0}
+
 abbrev pub Promised : Meaning → Counts → List ℕ → List ℕ → Type 0
 Promised m (Ok c) xs ys = Laid m c xs ys
-Promised m (Err e) xs ys = Unit {0}
+Promised m (Err e) xs ys = Refused m e

@@ -4,8 +4,22 @@ use mathlib.Core.Path.{_≡_, sym, ap, _∙_}
 use Rattle.rough.specs.Arrays.{goneBy, held, listed}
 use Rattle.rough.specs.Outcome.{fitted, laid, unlessEmpty}
 use Rattle.rough.specs.Run.{apartOf, gone, linksOf, rising}
+use borrow.Author.Needs.{needs}
+use Rattle.rough.proofs.Hopeless.{lowest-empty}
 use Rattle.rough.proofs.Laying.{promised}
 use Rattle.rough.proofs.call.rough.Needs as need
+
+pub returns-in-Some : need.returns-in-Some
+returns-in-Some g c =
+    let b = c .args .book .now in
+    let m = g .B·RoadBook .meaning b in
+    let found = sym (c .in-Some .ensures tt) in
+    record {
+      counts = ap (λ o. unlessEmpty o (fitted (linksOf m) (apartOf m) (length (c .args .links .now)) (length (c .args .apart .now)))) (sym found);
+      cut = search needs;
+      pairs = search needs;
+      promise = lowest-empty m (g .B·RoadBook .lawful b) (c .in-Some .pair) found;
+    }
 
 pub returns : need.returns
 returns g c =
