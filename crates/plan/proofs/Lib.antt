@@ -1,8 +1,10 @@
 pub mod Blank
 pub mod Climbs
+pub mod Digits
 pub mod Fields
 pub mod Members
 pub mod Places
+pub mod Puts
 pub mod Refusing
 pub mod Roads
 pub mod Rows

@@ -1,6 +1,8 @@
 pub mod Bits
 pub mod Layout
+pub mod Packed
 pub mod Plans
 pub mod Refusals
 pub mod Shape
 pub mod Tree
+pub mod Writes

@@ -1,4 +1,5 @@
 // Plans: a tree of terms, the pairs of terms to separate, and a budget; read from packed files.
+mod bit_writer;
 mod bits;
 mod fault;
 mod fresh;
