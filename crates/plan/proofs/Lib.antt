@@ -1,8 +1,12 @@
 pub mod Blank
 pub mod Climbs
 pub mod Digits
+pub mod FieldLists
 pub mod Fields
+pub mod Fronts
 pub mod Members
+pub mod Octets
+pub mod PackedBytes
 pub mod Places
 pub mod Puts
 pub mod Refusing

@@ -3,6 +3,7 @@ mod bit_writer;
 mod bits;
 mod fault;
 mod fresh;
+mod packing;
 mod reading;
 mod refusals;
 mod shape;

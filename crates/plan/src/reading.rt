@@ -20,7 +20,7 @@ impl From<BitsFault> for PlanFault as PlanFromBits {
 }
 
 // How many bits a term takes where there are `terms`.
-fn width_for(terms: u16) -> usize
+pub(crate) fn width_for(terms: u16) -> usize
     ensures value { λ r. ⌜ r ≡ widthFor terms ⌝ }
     ensures bound { λ r. ⌜ r ≤ 8 ⌝ }
 {
@@ -93,7 +93,7 @@ fn read_header(bits: &mut BitReader) -> Result<(u16, u16, u8), PlanFault>
 }
 
 // How many bits a packed plan takes.
-fn bits_for(terms: u16, pairs: u16) -> usize
+pub(crate) fn bits_for(terms: u16, pairs: u16) -> usize
     requires { ⌜ Counted terms pairs ⌝ }
     ensures value { λ r. ⌜ r ≡ pairPlace terms pairs ⌝ }
     ensures bound { λ r. ⌜ r < 2 ^ 20 ⌝ }
