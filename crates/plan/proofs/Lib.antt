@@ -17,5 +17,6 @@ pub mod Roads
 pub mod Rows
 pub mod Saying
 pub mod Shared
+pub mod Unique
 pub mod Ways
 pub mod Widths
