@@ -16,6 +16,7 @@ pub mod Reread
 pub mod Roads
 pub mod Rows
 pub mod Saying
+pub mod Separation
 pub mod Shared
 pub mod Unique
 pub mod Ways

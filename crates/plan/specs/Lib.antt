@@ -2,7 +2,9 @@ pub mod Bits
 pub mod Layout
 pub mod Packed
 pub mod Plans
+pub mod Promises
 pub mod Refusals
 pub mod Shape
 pub mod Tree
+pub mod Walks
 pub mod Writes

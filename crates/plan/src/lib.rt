@@ -4,6 +4,7 @@ mod bits;
 mod fault;
 mod fresh;
 mod packing;
+mod promises;
 mod reading;
 mod refusals;
 mod shape;
@@ -11,4 +12,7 @@ mod tree;
 
 pub use fault::BitsFault;
 pub use fault::PlanFault;
+pub use promises::packed_reads_back;
+pub use promises::read_is_packed;
+pub use promises::roads_separate;
 pub use shape::Plan;

@@ -1,0 +1,6 @@
+use mathlib.Core.Logic.{⊎-elim}
+use Rattle.plan.proofs.Separation.{road-or-walk, road-parts}
+use Rattle.plan.proofs.promises.roads_separate.Needs as need
+
+pub returns : need.returns
+returns c = λ p s a b inA inB. (road-parts p s a b, λ none. ⊎-elim (λ m. m) (λ w. absurd (none w)) (road-or-walk p s a b inA inB))

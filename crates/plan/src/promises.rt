@@ -1,0 +1,18 @@
+// The promises that are kept by definitions rather than by one call. The contract of each function is the promise;
+// there is nothing to run.
+ghost use Rattle.plan.specs.Promises.{PackedReadsBack, ReadIsPacked, RoadsSeparate};
+
+// Packing and then reading gives the same plan.
+pub fn packed_reads_back()
+    ensures { λ _. ⌜ PackedReadsBack ⌝ }
+{}
+
+// Reading and then packing gives the same bytes.
+pub fn read_is_packed()
+    ensures { λ _. ⌜ ReadIsPacked ⌝ }
+{}
+
+// Cutting a link of its road, and nothing less, separates two terms.
+pub fn roads_separate()
+    ensures { λ _. ⌜ RoadsSeparate ⌝ }
+{}
