@@ -21,3 +21,4 @@ pub mod Shared
 pub mod Unique
 pub mod Ways
 pub mod Widths
+pub mod Worked

@@ -4,6 +4,7 @@ pub mod Packed
 pub mod Plans
 pub mod Promises
 pub mod Refusals
+pub mod Samples
 pub mod Shape
 pub mod Tree
 pub mod Walks

@@ -1,6 +1,7 @@
 -- What is promised of every plan and every file, a sentence each.
 --     PackedReadsBack    the packed bytes of a plan are bytes, and they describe that plan and no other
 --     ReadIsPacked       bytes that describe a plan are its packed bytes
+--     SamplesPack        the plans worked by hand have the bytes that are shown, and the damaged one is refused at bit 31
 --     RoadsSeparate      a set of links meets the road of two terms exactly when no walk over the other links
 --                        leads from one to the other
 use mathlib.Core.Bool.{Bool}
@@ -8,9 +9,13 @@ use mathlib.Core.List.{List}
 use mathlib.Core.Path.{_≡_}
 use Prim.Native.Nat.{ℕ, _<_}
 use Rattle.plan.specs.Bits.{Bytes}
-use Rattle.plan.specs.Layout.{Describes}
+use Rattle.std.specs.shelf.Lists.{All}
+use Rattle.plan.specs.Layout.{Describes, Refuses}
 use Rattle.plan.specs.Packed.{packed}
+use Rattle.plan.specs.Samples.{damaged, samples, PacksAsShown}
 use Rattle.plan.specs.Walks.{Meets, Walk}
+use Rattle.plan.specs.declared.fault.BitsFault.the-variants.{Surplus}
+use Rattle.plan.specs.declared.fault.PlanFault.the-variants.{Bits}
 use Rattle.plan.specs.declared.shape.Plan.{Plan}
 
 abbrev pub PackedReadsBack : Type 0
@@ -18,6 +23,9 @@ PackedReadsBack = (p : Plan) → Bytes (packed p) × Describes (packed p) p × (
 
 abbrev pub ReadIsPacked : Type 0
 ReadIsPacked = (bs : List ℕ) (p : Plan) → Bytes bs → Describes bs p → bs ≡ packed p
+
+abbrev pub SamplesPack : Type 0
+SamplesPack = All PacksAsShown samples × Refuses damaged (Bits (Surplus 31))
 
 abbrev pub RoadsSeparate : Type 0
 RoadsSeparate = (p : Plan) (s : ℕ → Bool) (a b : ℕ) → a < p .terms → b < p .terms → (Meets p s a b → Walk p s a b → ⊥) × ((Walk p s a b → ⊥) → Meets p s a b)

@@ -15,4 +15,5 @@ pub use fault::PlanFault;
 pub use promises::packed_reads_back;
 pub use promises::read_is_packed;
 pub use promises::roads_separate;
+pub use promises::samples_pack;
 pub use shape::Plan;
