@@ -1,3 +1,4 @@
+pub mod Alone
 pub mod Blank
 pub mod Climbs
 pub mod Digits
@@ -18,6 +19,7 @@ pub mod Rows
 pub mod Saying
 pub mod Separation
 pub mod Shared
+pub mod Total
 pub mod Unique
 pub mod Ways
 pub mod Widths

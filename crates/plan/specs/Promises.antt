@@ -1,11 +1,13 @@
 -- What is promised of every plan and every file, a sentence each.
 --     PackedReadsBack    the packed bytes of a plan are bytes, and they describe that plan and no other
 --     ReadIsPacked       bytes that describe a plan are its packed bytes
+--     EachFileIsOne      a file describes a plan or is refused; not both; one plan at most, and for one reason at most
 --     SamplesPack        the plans worked by hand have the bytes that are shown, and the damaged one is refused at bit 31
 --     RoadsSeparate      a set of links meets the road of two terms exactly when no walk over the other links
 --                        leads from one to the other
 use mathlib.Core.Bool.{Bool}
 use mathlib.Core.List.{List}
+use mathlib.Core.Logic.{_⊎_}
 use mathlib.Core.Path.{_≡_}
 use Prim.Native.Nat.{ℕ, _<_}
 use Rattle.plan.specs.Bits.{Bytes}
@@ -15,6 +17,7 @@ use Rattle.plan.specs.Packed.{packed}
 use Rattle.plan.specs.Samples.{damaged, samples, PacksAsShown}
 use Rattle.plan.specs.Walks.{Meets, Walk}
 use Rattle.plan.specs.declared.fault.BitsFault.the-variants.{Surplus}
+use Rattle.plan.specs.declared.fault.PlanFault.{PlanFault}
 use Rattle.plan.specs.declared.fault.PlanFault.the-variants.{Bits}
 use Rattle.plan.specs.declared.shape.Plan.{Plan}
 
@@ -23,6 +26,16 @@ PackedReadsBack = (p : Plan) → Bytes (packed p) × Describes (packed p) p × (
 
 abbrev pub ReadIsPacked : Type 0
 ReadIsPacked = (bs : List ℕ) (p : Plan) → Bytes bs → Describes bs p → bs ≡ packed p
+
+-- reading is a function: from bytes to a plan or a refusal
+pub record ReadsOnce (bs : List ℕ) : Type 0 where
+  pub total : ((p : Plan) × Describes bs p) ⊎ ((f : PlanFault) × Refuses bs f)
+  pub apart : (p : Plan) (f : PlanFault) → Describes bs p → Refuses bs f → ⊥
+  pub plan : (p q : Plan) → Describes bs p → Describes bs q → p ≡ q
+  pub refusal : (f g : PlanFault) → Refuses bs f → Refuses bs g → f ≡ g
+
+abbrev pub EachFileIsOne : Type 0
+EachFileIsOne = (bs : List ℕ) → ReadsOnce bs
 
 abbrev pub SamplesPack : Type 0
 SamplesPack = All PacksAsShown samples × Refuses damaged (Bits (Surplus 31))

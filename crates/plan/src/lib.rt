@@ -12,6 +12,7 @@ mod tree;
 
 pub use fault::BitsFault;
 pub use fault::PlanFault;
+pub use promises::each_file_is_one;
 pub use promises::packed_reads_back;
 pub use promises::read_is_packed;
 pub use promises::roads_separate;

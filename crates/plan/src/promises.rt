@@ -1,6 +1,6 @@
 // The promises that are kept by definitions rather than by one call. The contract of each function is the promise;
 // there is nothing to run.
-ghost use Rattle.plan.specs.Promises.{PackedReadsBack, ReadIsPacked, RoadsSeparate, SamplesPack};
+ghost use Rattle.plan.specs.Promises.{EachFileIsOne, PackedReadsBack, ReadIsPacked, RoadsSeparate, SamplesPack};
 
 // Packing and then reading gives the same plan.
 pub fn packed_reads_back()
@@ -10,6 +10,11 @@ pub fn packed_reads_back()
 // Reading and then packing gives the same bytes.
 pub fn read_is_packed()
     ensures { λ _. ⌜ ReadIsPacked ⌝ }
+{}
+
+// Every file is one plan, or is refused for one reason.
+pub fn each_file_is_one()
+    ensures { λ _. ⌜ EachFileIsOne ⌝ }
 {}
 
 // The layout gives the bytes of the plans worked by hand.
