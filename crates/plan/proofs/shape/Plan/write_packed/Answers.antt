@@ -12,18 +12,11 @@ use Rattle.plan.specs.Layout.{broaderPlace, pairPlace, widthFor}
 use Rattle.plan.specs.Packed.{bitsOf, endFields, fieldBits, headFields, packed, termFields}
 use Rattle.plan.specs.Plans.{broaderOf, endsOf}
 use Rattle.plan.specs.Writes.{Wrote}
-use Rattle.plan.specs.declared.fault.BitsFault.the-variants.{BufferTooSmall}
 use Rattle.plan.proofs.FieldLists.{length-fields, plan-bits, widths-terms}
 use Rattle.plan.proofs.PackedBytes.{packed-length, put-plan}
 use Rattle.plan.proofs.Places.{pair-within}
 use Rattle.plan.proofs.Puts.{wrote-length, wrote-more, wrote-same}
-use Rattle.plan.proofs.shape.Plan.pack.Needs as need
-
-pub returns-then-out-needed : need.returns-then-out-needed
-returns-then-out-needed c =
-    let p = c .args .self .now in
-    let e : c .div-ceil-needed .result ≡ length (packed p) = omega (arith, c .div-ceil-needed .ensures, c .bits-for .ensures .value, packed-length p) in
-    (ap BufferTooSmall e, omega arith, refl)
+use Rattle.plan.proofs.shape.Plan.write_packed.Needs as need
 
 pub write-broader-requires : need.write-broader-requires
 write-broader-requires c κs =
@@ -32,12 +25,12 @@ write-broader-requires c κs =
     let fs = headFields n (p .pairs) (p .budget) in
     let head = c .write-header .ensures .wrote in
     let long = wrote-length (now (c .args .out)) 0 _ _ (joined fieldBits fs) head in
-    let room : pairPlace n (p .pairs) ≤ 8 * length (now (c .args .out)) = omega (arith, c .div-ceil-needed .ensures, c .bits-for .ensures .value) in
+    let room : pairPlace n (p .pairs) ≤ 8 * length (now (c .args .out)) = omega (arith, c .pre .room) in
     let inner = pair-within n 0 (p .pairs) (omega arith) in
     let none = zero-mul (2 * widthFor n) in
     record {
       place = omega (arith, head .1, length-fields fs, zero-mul (widthFor n));
-      early = omega (arith, c .bits-for .ensures .bound, c .bits-for .ensures .value);
+      early = omega (arith, c .pre .early);
       within = omega (arith, long);
     }
 
@@ -55,8 +48,8 @@ write-pairs-requires c κs =
     let none = zero-mul (2 * w) in
     record {
       place = omega (arith, head .1, length-fields hs, tree .1, length-fields ts, widths-terms w (broaderOf p) (n - 1));
-      early = omega (arith, c .bits-for .ensures .bound, c .bits-for .ensures .value);
-      within = omega (arith, long, long′, c .div-ceil-needed .ensures, c .bits-for .ensures .value);
+      early = omega (arith, c .pre .early);
+      within = omega (arith, long, long′, c .pre .room);
     }
 
 pub returns : need.returns
@@ -71,6 +64,6 @@ returns c =
     let two = wrote-more old 0 _ _ hs _ _ ts (c .write-header .ensures .wrote) (c .write-broader .ensures .wrote) in
     let three = wrote-more old 0 _ _ (hs ++ ts) _ _ es two (c .write-pairs .ensures .wrote) in
     let all = wrote-same old 0 _ _ _ _ three (plan-bits p) in
-    let whole : c .div-ceil-needed .result ≡ wholeBytes (pairPlace n (p .pairs)) = omega (arith, c .div-ceil-needed .ensures, c .bits-for .ensures .value) in
-    let e : now (c .write-pairs .last .bits .bytes) ≡ packed p ++ drop (c .div-ceil-needed .result) old = all .0 ∙ put-plan p old (c .div-ceil-needed .result) whole (c .if-out-needed .left) in
-    (whole ∙ sym (packed-length p), search needs)
+    let whole = packed-length p in
+    let e : now (c .write-pairs .last .bits .bytes) ≡ packed p ++ drop (length (packed p)) old = all .0 ∙ put-plan p old (length (packed p)) whole (omega (arith, whole, c .pre .room)) in
+    search needs
