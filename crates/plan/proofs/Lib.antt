@@ -20,6 +20,7 @@ pub mod Saying
 pub mod Separation
 pub mod Shared
 pub mod Total
+pub mod Turns
 pub mod Unique
 pub mod Ways
 pub mod Widths

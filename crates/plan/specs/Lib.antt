@@ -7,5 +7,6 @@ pub mod Refusals
 pub mod Samples
 pub mod Shape
 pub mod Tree
+pub mod Turning
 pub mod Walks
 pub mod Writes

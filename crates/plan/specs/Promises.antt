@@ -5,6 +5,8 @@
 --     SamplesPack        the plans worked by hand have the bytes that are shown, and the damaged one is refused at bit 31
 --     RoadsSeparate      a set of links meets the road of two terms exactly when no walk over the other links
 --                        leads from one to the other
+--     RoadsTurn          two terms have a lowest common ancestor, and there their ways part: the rank is its depth,
+--                        and the legs lead from it down to the two terms
 use mathlib.Core.Bool.{Bool}
 use mathlib.Core.List.{List}
 use mathlib.Core.Logic.{_⊎_}
@@ -15,6 +17,7 @@ use Rattle.std.specs.shelf.Lists.{All}
 use Rattle.plan.specs.Layout.{Describes, Refuses}
 use Rattle.plan.specs.Packed.{packed}
 use Rattle.plan.specs.Samples.{damaged, samples, PacksAsShown}
+use Rattle.plan.specs.Turning.{Turned, TurnsAt}
 use Rattle.plan.specs.Walks.{Meets, Walk}
 use Rattle.plan.specs.declared.fault.BitsFault.the-variants.{Surplus}
 use Rattle.plan.specs.declared.fault.PlanFault.{PlanFault}
@@ -42,3 +45,6 @@ SamplesPack = All PacksAsShown samples × Refuses damaged (Bits (Surplus 31))
 
 abbrev pub RoadsSeparate : Type 0
 RoadsSeparate = (p : Plan) (s : ℕ → Bool) (a b : ℕ) → a < p .terms → b < p .terms → (Meets p s a b → Walk p s a b → ⊥) × ((Walk p s a b → ⊥) → Meets p s a b)
+
+abbrev pub RoadsTurn : Type 0
+RoadsTurn = (p : Plan) (a b : ℕ) → ((c : ℕ) × TurnsAt p a b c) × ((c : ℕ) → TurnsAt p a b c → Turned p a b c)

@@ -16,5 +16,6 @@ pub use promises::each_file_is_one;
 pub use promises::packed_reads_back;
 pub use promises::read_is_packed;
 pub use promises::roads_separate;
+pub use promises::roads_turn;
 pub use promises::samples_pack;
 pub use shape::Plan;

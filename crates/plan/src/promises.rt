@@ -1,6 +1,6 @@
 // The promises that are kept by definitions rather than by one call. The contract of each function is the promise;
 // there is nothing to run.
-ghost use Rattle.plan.specs.Promises.{EachFileIsOne, PackedReadsBack, ReadIsPacked, RoadsSeparate, SamplesPack};
+ghost use Rattle.plan.specs.Promises.{EachFileIsOne, PackedReadsBack, ReadIsPacked, RoadsSeparate, RoadsTurn, SamplesPack};
 
 // Packing and then reading gives the same plan.
 pub fn packed_reads_back()
@@ -25,4 +25,9 @@ pub fn samples_pack()
 // Cutting a link of its road, and nothing less, separates two terms.
 pub fn roads_separate()
     ensures { λ _. ⌜ RoadsSeparate ⌝ }
+{}
+
+// Ranks and legs are counted from the lowest common ancestor.
+pub fn roads_turn()
+    ensures { λ _. ⌜ RoadsTurn ⌝ }
 {}
