@@ -12,7 +12,9 @@ fn packs_alike(file: u64, bits: usize) -> Result<bool, Fail> {
         Err(_) => Ok(false),
         Ok(()) => {
             let mut out = [0xAA; 8];
-            let written = plan.pack(&mut out)?;
+            let Ok(written) = plan.pack(&mut out) else {
+                return Err(Fail::new("too small a buffer"));
+            };
             check_eq(written, len)?;
             check(out[0..len] == bytes[0..len])?;
             check(out[7] == 0xAA)?;
