@@ -43,8 +43,14 @@ EachFileIsOne = (bs : List ℕ) → ReadsOnce bs
 abbrev pub SamplesPack : Type 0
 SamplesPack = All PacksAsShown samples × Refuses damaged (Bits (Surplus 31))
 
+-- the set s meets the road of a and b exactly when it leaves no walk between them
+pub record Separates (p : Plan) (s : ℕ → Bool) (a b : ℕ) : Type 0 where
+  pub met : Meets p s a b → Walk p s a b → ⊥
+  pub unmet : (Meets p s a b → ⊥) → Walk p s a b
+  pub parted : (Walk p s a b → ⊥) → Meets p s a b
+
 abbrev pub RoadsSeparate : Type 0
-RoadsSeparate = (p : Plan) (s : ℕ → Bool) (a b : ℕ) → a < p .terms → b < p .terms → (Meets p s a b → Walk p s a b → ⊥) × ((Walk p s a b → ⊥) → Meets p s a b)
+RoadsSeparate = (p : Plan) (s : ℕ → Bool) (a b : ℕ) → a < p .terms → b < p .terms → Separates p s a b
 
 abbrev pub RoadsTurn : Type 0
 RoadsTurn = (p : Plan) (a b : ℕ) → ((c : ℕ) × TurnsAt p a b c) × ((c : ℕ) → TurnsAt p a b c → Turned p a b c)

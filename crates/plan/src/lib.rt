@@ -1,4 +1,4 @@
-// Plans: a tree of terms, the pairs of terms to separate, and a budget; read from packed files.
+// Plans: a tree of terms, the pairs of terms to separate, and a budget; read from packed files and packed again.
 mod bit_writer;
 mod bits;
 mod fault;
