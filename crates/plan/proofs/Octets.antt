@@ -9,17 +9,17 @@
 --     row-same         rows made from equal parts are equal
 use mathlib.Core.List.{List, [], _∷_, _++_, map}
 use mathlib.Core.Logic.{⊎-elim}
-use mathlib.Core.Path.{_≡_, refl, sym, ap, subst, _∙_}
+use mathlib.Core.Path.{_≡_, refl, sym, ap, _∙_}
 use Prim.Native.Nat.{ℕ, zero, suc, _+_, _-_, _*_, _/_, _%_, _^_, _<_, _≤_}
-use native.Mathlib.Nat.{add-assoc, add-suc, div-one, mul-assoc, mul-one, pow-suc}
+use native.Mathlib.Nat.{div-one, mul-assoc, mul-one, pow-suc}
 use native.Mathlib.Numerals.{add-one}
 use native.Mathlib.Omega.{arith}
 use lib.ListN.{getD, length}
 use Rattle.std.specs.Iters.{counting}
-use Rattle.std.proofs.shelf.Bits.{div-mul-add, mod-below, mod-mul-add, shr-shr}
+use Rattle.std.proofs.shelf.Bits.{div-mul-add, mod-mul-add, shr-shr}
 use Rattle.std.proofs.shelf.Counted.{fill-by-all, getD-map-counting, length-map-counting}
 use Rattle.std.proofs.shelf.Elements.{all-getD}
-use Rattle.std.proofs.shelf.Lists.{getD-append-left, getD-past, getD-push, length-push}
+use Rattle.std.proofs.shelf.Lists.{getD-append-left, getD-past, getD-push}
 use Rattle.std.proofs.shelf.Tests.{cases-eq, cases-lt}
 use Rattle.plan.specs.Bits.{bitAt, wholeBytes}
 use Rattle.plan.specs.Packed.{byteAt, bytesOf, numberAt, numberBits}

@@ -8,21 +8,20 @@ use mathlib.Core.Path.{_≡_, refl, sym, ap, subst, _∙_}
 use Prim.Native.Nat.{ℕ, zero, suc, _+_, _-_, _*_, _^_, _<_, _≤_}
 use native.Mathlib.Nat.{pow-suc}
 use native.Mathlib.Omega.{arith}
-use lib.ListN.{getD, length}
+use lib.ListN.{length}
 use Rattle.std.specs.Iters.{counting}
-use Rattle.std.specs.Joined.{joined}
 use Rattle.std.specs.shelf.Lists.{All}
 use Rattle.std.proofs.shelf.Counted.{fill-by-all}
 use Rattle.std.proofs.shelf.Elements.{all-append, all-from-getD}
 use Rattle.std.proofs.shelf.Lists.{getD-past}
 use Rattle.plan.specs.Bits.{bitAt, wholeBytes, Bytes, Filled}
 use Rattle.plan.specs.Layout.{bitsIn, broaderIn, endsIn, pairPlace, pairsIn, termsIn, widthFor, Describes, PairsBelow, TreeBelow}
-use Rattle.plan.specs.Packed.{bitsOf, byteAt, bytesOf, endFields, fieldBits, headFields, numberAt, packed, pairFields, planFields, termFields}
+use Rattle.plan.specs.Packed.{bitsOf, bytesOf, endFields, headFields, numberAt, packed, pairFields, planFields, termFields}
 use Rattle.plan.specs.Plans.{broaderOf, endsOf}
 use Rattle.plan.specs.Shape.{Counted, Ordered}
 use Rattle.plan.specs.declared.shape.Plan.{Plan}
 use Rattle.plan.proofs.Digits.{Binary}
-use Rattle.plan.proofs.FieldLists.{ends-more, plan-length, plan-widths, terms-more, widths}
+use Rattle.plan.proofs.FieldLists.{ends-more, plan-length, plan-widths, terms-more}
 use Rattle.plan.proofs.Holding.{bits-hold, Fits}
 use Rattle.plan.proofs.Octets.{binary-at, bit-of-bytes, byte-of-bytes, length-bytes, number-more, number-none}
 use Rattle.plan.proofs.PackedBytes.{packed-length, plan-binary}

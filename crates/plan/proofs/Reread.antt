@@ -4,7 +4,7 @@
 --     described-packed   bytes that describe a plan are its packed bytes
 use mathlib.Core.List.{List, map}
 use mathlib.Core.Logic.{⊎-elim}
-use mathlib.Core.Path.{_≡_, refl, sym, ap, subst, _∙_}
+use mathlib.Core.Path.{_≡_, sym, ap, subst, _∙_}
 use Prim.Native.Nat.{ℕ, zero, suc, _+_, _-_, _*_, _/_, _%_, _^_, _<_, _≤_}
 use native.Mathlib.Nat.{div-one, mod-eq-of-lt}
 use native.Mathlib.Omega.{arith}
@@ -18,7 +18,7 @@ use Rattle.std.proofs.shelf.Tests.{cases-lt}
 use Rattle.plan.specs.Bits.{bitAt, fieldAt, wholeBytes, Bytes, Filled}
 use Rattle.plan.specs.Layout.{bitsIn, broaderIn, endsIn, pairPlace, termsIn, Describes}
 use Rattle.plan.specs.Packed.{bitsOf, bytesOf, numberAt, packed, planFields}
-use Rattle.plan.specs.Plans.{broaderOf, endsOf}
+use Rattle.plan.specs.Plans.{broaderOf}
 use Rattle.plan.specs.declared.shape.Plan.{Plan}
 use Rattle.plan.proofs.FieldLists.{plan-widths}
 use Rattle.plan.proofs.Fields.{field-more, field-none}

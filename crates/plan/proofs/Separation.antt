@@ -8,7 +8,6 @@ use mathlib.Core.Logic.{_⊎_, inl, inr, ⊎-elim}
 use mathlib.Core.Path.{_≡_, refl, sym, ap, subst, _∙_}
 use Prim.Native.Nat.{ℕ, zero, suc, _+_, _<_, _≤_}
 use native.Mathlib.Omega.{arith}
-use lib.Dec.{eqb}
 use Rattle.std.proofs.shelf.Tests.{both-ways, cases-bool, cases-eq, cases-order, ne-eqb}
 use Rattle.plan.specs.Plans.{broaderOf}
 use Rattle.plan.specs.Tree.{among, leg, way}

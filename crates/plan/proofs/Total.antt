@@ -5,12 +5,12 @@
 --     read-total      every file describes a plan or is refused
 use mathlib.Core.List.{List}
 use mathlib.Core.Logic.{_⊎_, inl, inr, ⊎-elim}
-use mathlib.Core.Path.{_≡_, refl, sym, ap, subst}
+use mathlib.Core.Path.{_≡_, refl, sym, subst}
 use Prim.Native.Nat.{ℕ, zero, suc, _+_, _-_, _*_, _<_, _≤_}
 use native.Mathlib.Omega.{arith}
 use lib.ListN.{length, replicate, set}
 use Rattle.std.proofs.shelf.Tests.{cases-eq, cases-lt}
-use Rattle.plan.specs.Bits.{bitAt, wholeBytes, Filled, Surplus as SurplusFrom, Zeros}
+use Rattle.plan.specs.Bits.{bitAt, wholeBytes, Filled, Zeros}
 use Rattle.plan.specs.Layout.{bitsIn, broaderIn, budgetIn, endsIn, pairsIn, termsIn, Describes, Headed, Long, Pairs, PairsBelow, Refuses, Tree, TreeBelow}
 use Rattle.plan.specs.Shape.{Ordered}
 use Rattle.plan.specs.declared.fault.BitsFault.the-variants.{EndsEarly, Surplus}

@@ -5,12 +5,12 @@
 --     turn-some       there is a turning term, at the depth of the rank
 --     turn-one        there is no other
 --     turned          the ways part there
-use mathlib.Core.List.{List, [], _∷_, _++_}
+use mathlib.Core.List.{[], _∷_, _++_}
 use mathlib.Core.Logic.{_⊎_, inl, inr, ⊎-elim}
 use mathlib.Core.Path.{_≡_, refl, sym, ap, subst, _∙_}
-use Prim.Native.Nat.{ℕ, min, zero, suc, _+_, _<_, _≤_}
+use Prim.Native.Nat.{ℕ, zero, suc, _+_, _<_, _≤_}
 use native.Mathlib.Omega.{arith}
-use lib.ListN.{drop, length, take}
+use lib.ListN.{length, take}
 use Rattle.std.proofs.shelf.Lists.{length-take, take-all, take-append-drop, take-append-le}
 use Rattle.std.proofs.shelf.Tests.{cases-order}
 use Rattle.plan.specs.Plans.{broaderOf}

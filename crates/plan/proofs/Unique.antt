@@ -5,14 +5,13 @@ use denote.Struct.Props.{props}
 use mathlib.Core.HLevel.{isProp→PathP}
 use mathlib.Core.List.{List}
 use mathlib.Core.Logic.{⊎-elim}
-use mathlib.Core.Path.{_≡_, sym, ap, subst, _∙_}
-use Prim.Native.Nat.{ℕ, _<_, _≤_}
+use mathlib.Core.Path.{_≡_, sym, ap, _∙_}
+use Prim.Native.Nat.{ℕ}
 use native.Mathlib.Omega.{arith}
-use lib.ListN.{getD, length}
+use lib.ListN.{getD}
 use Rattle.std.proofs.shelf.Lists.{ext-getD}
 use Rattle.std.proofs.shelf.Tests.{cases-eq, cases-lt}
 use Rattle.plan.specs.Layout.{Describes}
-use Rattle.plan.specs.Plans.{broaderOf, endsOf}
 use Rattle.plan.specs.Shape.{Counted, Paired, Rooted, Stored, Unpaired}
 use Rattle.plan.specs.declared.shape.Plan.{Plan}
 

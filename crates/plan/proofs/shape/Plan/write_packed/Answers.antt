@@ -1,17 +1,15 @@
 use Prim.Native.Nat.{_-_, _*_, _≤_}
 use mathlib.Core.List.{_++_}
-use mathlib.Core.Path.{_≡_, refl, sym, ap, _∙_}
+use mathlib.Core.Path.{_≡_, _∙_}
 use denote.Ref.{now}
 use native.Mathlib.Nat.{zero-mul}
 use native.Mathlib.Omega.{arith}
 use borrow.Author.Needs.{needs}
 use lib.ListN.{drop, length}
 use Rattle.std.specs.Joined.{joined}
-use Rattle.plan.specs.Bits.{wholeBytes}
-use Rattle.plan.specs.Layout.{broaderPlace, pairPlace, widthFor}
-use Rattle.plan.specs.Packed.{bitsOf, endFields, fieldBits, headFields, packed, termFields}
+use Rattle.plan.specs.Layout.{pairPlace, widthFor}
+use Rattle.plan.specs.Packed.{endFields, fieldBits, headFields, packed, termFields}
 use Rattle.plan.specs.Plans.{broaderOf, endsOf}
-use Rattle.plan.specs.Writes.{Wrote}
 use Rattle.plan.proofs.FieldLists.{length-fields, plan-bits, widths-terms}
 use Rattle.plan.proofs.PackedBytes.{packed-length, put-plan}
 use Rattle.plan.proofs.Places.{pair-within}
