@@ -1,4 +1,5 @@
 -- The bits of a list of bytes, the most significant bit of each byte first.
+--     Bytes bs          each number of the list is below 256
 --     bitAt bs i        the bit at place i, counted from 0
 --     fieldAt bs i w    the number written in the w bits from place i on
 --     wholeBytes i      how many bytes hold i bits
@@ -9,6 +10,10 @@ use mathlib.Core.List.{List}
 use mathlib.Core.Logic.{_⊎_}
 use mathlib.Core.Path.{_≡_}
 use lib.ListN.{getD, length}
+use Rattle.std.specs.shelf.Lists.{All}
+
+abbrev pub Bytes : List ℕ → Type 0
+Bytes bs = All (λ b. b < 256) bs
 
 abbrev pub bitAt : List ℕ → ℕ → ℕ
 bitAt bs i = getD bs (i / 8) 0 / 2 ^ (7 - i % 8) % 2

@@ -18,7 +18,7 @@ use lib.ListN.{length}
 use Rattle.plan.specs.Bits.{fieldAt, wholeBytes, Filled, Surplus as SurplusFrom}
 use Rattle.plan.specs.Plans.{broaderOf, endsOf}
 use Rattle.plan.specs.Shape.{Counted, Ordered}
-use Rattle.plan.specs.declared.fault.BitsFault.the-variants.{EndsEarly, Surplus}
+use Rattle.plan.specs.declared.fault.BitsFault.the-variants.{EndsEarly, Surplus, BufferTooSmall}
 use Rattle.plan.specs.declared.fault.PlanFault.{PlanFault}
 use Rattle.plan.specs.declared.fault.PlanFault.the-variants.{Bits, TermCount, PairCount, BroaderTerm, PairTerms}
 use Rattle.plan.specs.declared.shape.Plan.{Plan}
@@ -87,6 +87,7 @@ pub record Describes (bs : List ℕ) (p : Plan) : Type 0 where
 
 abbrev pub Refuses : List ℕ → PlanFault → Type 0
 Refuses bs (Bits (EndsEarly i)) = (i ≡ 8 * length bs) × ((length bs < 4) ⊎ (Headed bs × (length bs < wholeBytes (bitsIn bs))))
+Refuses bs (Bits (BufferTooSmall k)) = ⊥
 Refuses bs TermCount = (4 ≤ length bs) × ((termsIn bs ≡ 0) ⊎ (256 < termsIn bs))
 Refuses bs PairCount = (4 ≤ length bs) × (1 ≤ termsIn bs) × (termsIn bs ≤ 256) × (256 < pairsIn bs)
 Refuses bs (BroaderTerm t) = Long bs × (0 < t) × (t < termsIn bs) × TreeBelow bs (termsIn bs) t × (t ≤ broaderIn bs (termsIn bs) t)

@@ -4,7 +4,7 @@
 --     planNumber, planPlace, planLayer    of a fault of the plan, which holds that of the bits whole
 use Prim.Native.Nat.{ℕ}
 use Rattle.plan.specs.declared.fault.BitsFault.{BitsFault}
-use Rattle.plan.specs.declared.fault.BitsFault.the-variants.{EndsEarly, Surplus}
+use Rattle.plan.specs.declared.fault.BitsFault.the-variants.{EndsEarly, Surplus, BufferTooSmall}
 use Rattle.plan.specs.declared.fault.PlanFault.{PlanFault}
 use Rattle.plan.specs.declared.fault.PlanFault.the-variants.{Bits, BroaderTerm, PairCount, PairTerms, TermCount}
 
@@ -17,10 +17,12 @@ pub data Layer : Type 0 where
 abbrev pub bitsNumber : BitsFault → ℕ
 bitsNumber (EndsEarly i) = 1
 bitsNumber (Surplus i) = 5
+bitsNumber (BufferTooSmall k) = 15
 
 abbrev pub bitsPlace : BitsFault → ℕ
 bitsPlace (EndsEarly i) = i
 bitsPlace (Surplus i) = i
+bitsPlace (BufferTooSmall k) = k
 
 abbrev pub planNumber : PlanFault → ℕ
 planNumber (Bits f) = bitsNumber f

@@ -5,6 +5,7 @@ ghost use Rattle.plan.specs.Shape.{Counted, Ordered, Paired, Rooted, Unpaired}
 ghost use Rattle.plan.specs.declared.fault.PlanFault.the-variants.{Bits, BroaderTerm, PairTerms};
 ghost use Rattle.std.specs.Results.{Cases};
 ghost use lib.ListN.{length, getD};
+ghost use mathlib.Core.Bool.{false, true};
 ghost use mathlib.Core.Path.{_≡_};
 use crate::bits::BitReader;
 use crate::fault::BitsFault;
@@ -20,7 +21,7 @@ impl From<BitsFault> for PlanFault as PlanFromBits {
 }
 
 // How many bits a term takes where there are `terms`.
-fn width_for(terms: u16) -> usize
+pub(crate) fn width_for(terms: u16) -> usize
     ensures value { λ r. ⌜ r ≡ widthFor terms ⌝ }
     ensures bound { λ r. ⌜ r ≤ 8 ⌝ }
 {
@@ -30,6 +31,22 @@ fn width_for(terms: u16) -> usize
         }
     }
     8
+}
+
+// Whether one term may be the broader term of another: it has the smaller number.
+fn is_broader(above: u16, term: u16) -> bool
+    ensures yes { λ r. ⌜ (r ≡ true → above < term) ⌝ }
+    ensures no { λ r. ⌜ (r ≡ false → term ≤ above) ⌝ }
+{
+    above < term
+}
+
+// Whether two numbers are a pair of terms, the smaller first.
+fn is_pair(first: u16, second: u16, terms: u16) -> bool
+    ensures yes { λ r. ⌜ (r ≡ true → Ordered terms (first, second)) ⌝ }
+    ensures no { λ r. ⌜ (r ≡ false → Ordered terms (first, second) → ⊥) ⌝ }
+{
+    first < second && second < terms
 }
 
 // The broader terms, from the place where that of term 1 stands.
@@ -44,7 +61,7 @@ fn read_broader(bits: &mut BitReader, terms: u16) -> Result<[u8; 256], PlanFault
     let mut broader = [0; 256];
     for t in 1..terms {
         let above = bits.field(width)?;
-        if above >= t {
+        if !is_broader(above, t) {
             return Err(PlanFault::BroaderTerm(t));
         }
         broader[t as usize] = above as u8;
@@ -66,7 +83,7 @@ fn read_pairs(bits: &mut BitReader, terms: u16, pairs: u16) -> Result<[(u8, u8);
     for q in 0..pairs {
         let first = bits.field(width)?;
         let second = bits.field(width)?;
-        if first >= second || second >= terms {
+        if !is_pair(first, second, terms) {
             return Err(PlanFault::PairTerms(q));
         }
         ends[q as usize] = (first as u8, second as u8);
@@ -93,7 +110,7 @@ fn read_header(bits: &mut BitReader) -> Result<(u16, u16, u8), PlanFault>
 }
 
 // How many bits a packed plan takes.
-fn bits_for(terms: u16, pairs: u16) -> usize
+pub(crate) fn bits_for(terms: u16, pairs: u16) -> usize
     requires { ⌜ Counted terms pairs ⌝ }
     ensures value { λ r. ⌜ r ≡ pairPlace terms pairs ⌝ }
     ensures bound { λ r. ⌜ r < 2 ^ 20 ⌝ }

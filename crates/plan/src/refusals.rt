@@ -11,6 +11,7 @@ impl BitsFault {
         match self {
             BitsFault::EndsEarly(_) => 1,
             BitsFault::Surplus(_) => 5,
+            BitsFault::BufferTooSmall(_) => 15,
         }
     }
 
@@ -20,6 +21,7 @@ impl BitsFault {
         match self {
             BitsFault::EndsEarly(bits) => bits,
             BitsFault::Surplus(bit) => bit,
+            BitsFault::BufferTooSmall(bytes) => bytes,
         }
     }
 }

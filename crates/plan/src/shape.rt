@@ -1,6 +1,6 @@
 // What a plan holds, and what holds of every plan.
 ghost use Prim.Native.Nat.{ℕ, _<_, _≤_};
-ghost use Rattle.plan.specs.Shape.{Counted, Paired, Rooted, Unpaired};
+ghost use Rattle.plan.specs.Shape.{Counted, Paired, Rooted, Stored, Unpaired};
 
 // A tree of terms, the pairs of terms to separate, and a budget: an instance of Multicut in Trees.
 // Terms are numbered from 0, the root. The link of a term is the tree edge to its broader term, its
@@ -21,4 +21,5 @@ pub struct Plan {
     ghost rooted: { Rooted terms broader },
     ghost paired: { Paired terms pairs ends },
     ghost unpaired: { Unpaired pairs ends },
+    ghost stored: { Stored budget broader ends },
 }

@@ -69,11 +69,11 @@ impl Plan {
     pub fn is_above(&self, link: u16, term: u16) -> bool
         ensures { λ r. ⌜ r ≡ among link (way (broaderOf (now (self .entry))) term) ⌝ }
     {
-        let mut t = term;
-        while t > link {
-            t = self.broader(t);
+        let mut higher = term;
+        while higher > link {
+            higher = self.broader(higher);
         }
-        t == link && link != 0
+        higher == link && link != 0
     }
 
     // The number of links from term 0 down to the turning term of two terms, their lowest common ancestor.

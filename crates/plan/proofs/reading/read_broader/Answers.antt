@@ -33,7 +33,7 @@ loop-t-again c =
     let bytes = i .0 in
     let place = i .1 in
     let e : v ≡ broaderIn bs n t = cc in
-    let less : broaderIn bs n t < t = omega (arith, e) in (
+    let less : broaderIn bs n t < t = omega (arith, e, c .is-broader .ensures .yes (c .if-not-is-broader .left)) in (
       h .same ∙ i .0,
       omega (arith, h .value .1, i .1, broader-next n t (omega arith)),
       written-more (broaderIn bs n) 0 1 t (c .loop-t .broader) v (i .2) (omega arith) (omega arith) e,

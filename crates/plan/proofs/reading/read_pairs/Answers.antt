@@ -47,7 +47,8 @@ loop-q-again c =
     let a : c .in-Continue-first .first ≡ endsIn bs n q .0 = same-field _ _ _ _ _ _ (f .value .0) bytes (i .1) w in
     let moved : c .field .last .self .at ≡ pairPlace n q + widthFor n = omega (arith, f .value .1, i .1) in
     let b : c .in-Continue-second .second ≡ endsIn bs n q .1 = same-field _ _ _ _ _ _ (s .value .0) (ap now (f .same) ∙ bytes) moved w in
-    let fine : Ordered n (endsIn bs n q) = (omega (arith, a, b), omega (arith, b)) in (
+    let o = c .is-pair .ensures .yes (c .if-not-is-pair .left) in
+    let fine : Ordered n (endsIn bs n q) = (omega (arith, a, b, o .0), omega (arith, b, o .1)) in (
       s .same ∙ f .same ∙ i .0,
       omega (arith, s .value .1, moved, pair-next n q),
       written-more (endsIn bs n) (0, 0) 0 q (c .loop-q .ends) _ (i .2) (omega arith) (omega arith) (joined a b),

@@ -7,25 +7,25 @@ use Rattle.plan.specs.Tree.{among, way}
 use Rattle.plan.proofs.Climbs.{above-climb, above-here, above-past, plan-falls}
 use Rattle.plan.proofs.shape.Plan.is_above.Needs as need
 
-pub loop-t-again : need.loop-t-again
-loop-t-again c =
+pub loop-higher-again : need.loop-higher-again
+loop-higher-again c =
     let p = c .args .self .now in
     let up = broaderOf p in
     let x = c .args .link in
-    ap (λ t. among x (way up t)) (c .broader-t .ensures .value) ∙ sym (above-climb up (plan-falls p) x (c .loop-t .t) (c .loop-t-test .taken)) ∙ c .loop-t .inv
+    ap (λ t. among x (way up t)) (c .broader-higher .ensures .value) ∙ sym (above-climb up (plan-falls p) x (c .loop-higher .higher) (c .loop-higher-test .taken)) ∙ c .loop-higher .inv
 
-pub returns-then-t-link : need.returns-then-t-link
-returns-then-t-link c =
+pub returns-then-higher-link : need.returns-then-higher-link
+returns-then-higher-link c =
     let p = c .args .self .now in
     let up = broaderOf p in
     let x = c .args .link in
-    sym (above-here up (plan-falls p) x) ∙ ap (λ t. among x (way up t)) (sym (c .if-t-link .taken)) ∙ c .loop-t .inv
+    sym (above-here up (plan-falls p) x) ∙ ap (λ t. among x (way up t)) (sym (c .if-higher-link .taken)) ∙ c .loop-higher .inv
 
-pub returns-else-t-link : need.returns-else-t-link
-returns-else-t-link c =
+pub returns-else-higher-link : need.returns-else-higher-link
+returns-else-higher-link c =
     let p = c .args .self .now in
     let up = broaderOf p in
     let x = c .args .link in
-    let ne = c .if-t-link .left in
-    let less : c .loop-t .t < x = omega (arith, ne) in
-    ne-eqb (c .loop-t .t) x ne ∙ sym (above-past up (plan-falls p) x (c .loop-t .t) less) ∙ c .loop-t .inv
+    let ne = c .if-higher-link .left in
+    let less : c .loop-higher .higher < x = omega (arith, ne) in
+    ne-eqb (c .loop-higher .higher) x ne ∙ sym (above-past up (plan-falls p) x (c .loop-higher .higher) less) ∙ c .loop-higher .inv
