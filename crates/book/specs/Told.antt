@@ -46,7 +46,7 @@ ends-in p q e =
     let o = p .paired q (ltb-true q (p .pairs) e) in
     (omega (arith, o .0, o .1), o .1)
 
-is-link : (p : Plan) (l : ℕ) → 0 < l → l < p .terms → isLink p l ≡ true
+pub is-link : (p : Plan) (l : ℕ) → 0 < l → l < p .terms → isLink p l ≡ true
 is-link p l pos small = and-from (ltb 0 l) (ltb l (p .terms)) (lt-ltb 0 l pos) (lt-ltb l (p .terms) small)
 
 told-live-legs : (p : Plan) (s : Leg) (q k l : ℕ) → ltb q (p .pairs) ≡ true → nth (legOf (told p) s q) k ≡ Some l → isLink p l ≡ true

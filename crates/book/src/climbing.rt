@@ -1,4 +1,5 @@
 // The climbing book: it keeps nothing but the plan, and follows broader terms at each question.
+ghost use Rattle.book.specs.Tells.{Tells};
 ghost use Rattle.book.specs.Told.{told, told-lawful};
 ghost use denote.Ref.{now};
 ghost use mathlib.Core.Path.{_≡_};
@@ -12,8 +13,10 @@ pub struct ClimbingBook<'a> {
 }
 
 impl<'a> ClimbingBook<'a> {
+    // A book that tells the plan.
     pub fn new(plan: &'a Plan) -> Self
-        ensures { λ r. ⌜ now (r .plan) ≡ now (plan .entry) ⌝ }
+        ensures keeps { λ r. ⌜ now (r .plan) ≡ now (plan .entry) ⌝ }
+        ensures tells { λ r. ⌜ Tells (told (now (r .plan))) (now (plan .entry)) ⌝ }
     {
         ClimbingBook { plan }
     }

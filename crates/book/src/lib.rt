@@ -1,9 +1,12 @@
 // Road-books: anything that tells which links are on which pair's road, and obeys the tree law.
 mod climbing;
 mod leg;
+mod promises;
 mod road_book;
 
 pub use climbing::ClimbingBook;
 pub use climbing::ClimbingRoads;
 pub use leg::Leg;
+pub use promises::tellers_cut_alike;
+pub use promises::tellers_have_roads;
 pub use road_book::RoadBook;
