@@ -1,6 +1,7 @@
 -- The limits that the law of books sets.
 --     live-below, open-below    a live link and an open pair are below 256
 --     different-fits            different numbers from 1 to h are at most h many
+--     rank-low                  no rank is over 255
 --     leg-short                 so no leg has more than 255 links
 use mathlib.Core.Bool.{Bool, true, not}
 use mathlib.Core.List.{List, [], _∷_}
@@ -13,11 +14,11 @@ use lib.ListN.{length}
 use Rattle.std.specs.Finite.{nth}
 use Rattle.std.specs.declared.option.Option.the-variants.{Some}
 use Rattle.std.specs.shelf.Lists.{kept-by}
-use Rattle.std.proofs.shelf.Tests.{and-parts, cases-eq, eq-eqb, eqb-false, ne-eqb, not-from-false, not-from-true, not-true}
+use Rattle.std.proofs.shelf.Tests.{and-parts, cases-bool, cases-eq, cond-false, cond-true, eq-eqb, eqb-false, ne-eqb, not-from-false, not-from-true, not-true}
 use Rattle.plan.proofs.Members.{at-among}
 use Rattle.plan.specs.Tree.{among}
 use Rattle.book.specs.Kept.{among-kept, different-rest, keeps, kept-at, kept-different, passes-over}
-use Rattle.book.specs.Meaning.{Different, Lawful, Meaning, legOf}
+use Rattle.book.specs.Meaning.{Different, Lawful, Meaning, legOf, rankAt}
 use Rattle.book.specs.declared.leg.Leg.{Leg}
 
 pub live-below : (m : Meaning) → Lawful m → (l : ℕ) → m .live l ≡ true → l < 256
@@ -70,3 +71,10 @@ pub leg-short : (m : Meaning) → Lawful m → (s : Leg) (p : ℕ) → m .opened
 leg-short m law s p e =
     let h : length (legOf m s p) ≤ m .highest = different-fits (m .highest) (legOf m s p) (law .different s p e) (λ k x f. law .live-in x (law .live-legs s p k x e f)) in
     omega (arith, law .few-links)
+
+pub rank-low : (m : Meaning) → Lawful m → (p : ℕ) → rankAt m p ≤ 255
+rank-low m law p =
+    ⊎-elim
+    (λ e. omega (arith, cond-true (m .opened p) (m .rank p) 0 e, law .low-rank p e))
+    (λ e. omega (arith, cond-false (m .opened p) (m .rank p) 0 e))
+    (cases-bool (m .opened p))

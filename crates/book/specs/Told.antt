@@ -49,7 +49,7 @@ ends-in p q e =
 pub is-link : (p : Plan) (l : ℕ) → 0 < l → l < p .terms → isLink p l ≡ true
 is-link p l pos small = and-from (ltb 0 l) (ltb l (p .terms)) (lt-ltb 0 l pos) (lt-ltb l (p .terms) small)
 
-told-live-legs : (p : Plan) (s : Leg) (q k l : ℕ) → ltb q (p .pairs) ≡ true → nth (legOf (told p) s q) k ≡ Some l → isLink p l ≡ true
+pub told-live-legs : (p : Plan) (s : Leg) (q k l : ℕ) → ltb q (p .pairs) ≡ true → nth (legOf (told p) s q) k ≡ Some l → isLink p l ≡ true
 told-live-legs p First q k l e f =
     let b = leg-bounds (broaderOf p) (plan-falls p) (endsOf p q .0) _ k l f in
     is-link p l (b .0) (omega (arith, b .1, ends-in p q e .0))
