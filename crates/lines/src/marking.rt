@@ -11,9 +11,9 @@ use crate::calls::run_line;
 use crate::line_reader::LineReader;
 use crate::printing::refusal_line;
 use crate::printing::step_line;
-use book::ClimbingBook;
-use book::ClimbingRoads;
 use book::RoadBook;
+use book::Sheet;
+use book::SheetRoads;
 use plan::Plan;
 use std::alloc::AllocError;
 use std::alloc::Global;
@@ -53,7 +53,7 @@ fn mark_lines<B: RoadBook>(
     Ok(out)
 }
 
-// Reads the plan, lays a working over it with its budget, and runs the lines of the input. What is printed is given back.
+// Reads the plan, lays a working over its sheet with its budget, and runs the lines of the input. What is printed is given back.
 pub fn mark(heap: Global, file: &[u8], input: &[u8]) -> Result<String, AllocError>
     ensures { λ r. ⌜ made r (λ s. Prints (now (file .entry)) (now (input .entry)) (string-bytes s)) ⌝ }
 {
@@ -61,7 +61,7 @@ pub fn mark(heap: Global, file: &[u8], input: &[u8]) -> Result<String, AllocErro
     if let Err(fault) = plan.read(file) {
         return refusal_line(heap, 0, fault.number(), fault.place());
     }
-    let book = ClimbingBook::new(&plan);
-    let mut working = Working::lay(&book, plan.budget());
+    let sheet = Sheet::new(&plan);
+    let mut working = Working::lay(&sheet, plan.budget());
     mark_lines(heap, &mut working, input)
 }

@@ -13,7 +13,7 @@ returns c =
     let p = c .read .last .self in
     let ls = linesOf (c .args .input .now) in
     let laid = c .lay-working .ensures in
-    let plan : now (now (c .lay-working .result .book) .plan) ≡ p = ap (λ b. now (b .plan)) (laid .keeps) ∙ c .new-book .ensures .keeps in
+    let plan : now (c .lay-working .result .book) .plan ≡ p = ap (λ b. b .plan) (laid .keeps) ∙ c .new-sheet .ensures .keeps in
     let tally : c .lay-working .result .tally ≡ fresh (p .budget) = laid .tallies ∙ ap fresh (c .budget .ensures) in
     made-weaker (c .mark-lines .result) _ _
     (λ s e. inl (p, c .in-rest .ensures tt, e ∙ ap (λ q. runSaid (told q) (c .lay-working .result .tally) 1 ls) plan ∙ ap (λ t. runSaid (told p) t 1 ls) tally))
