@@ -24,10 +24,13 @@ Rising l n (x ∷ xs) = (l ≤ x) × (x < n) × Rising (suc x) n xs
 pub rising-from : (xs : List ℕ) (l n : ℕ) → ((i x : ℕ) → nth xs i ≡ Some x → (l ≤ x) × (x < n)) → ((i j x y : ℕ) → i < j → nth xs i ≡ Some x → nth xs j ≡ Some y → x < y) → Rising l n xs
 rising-from [] l n bounds order = tt
 rising-from (x ∷ xs) l n bounds order =
-    let b = bounds 0 x refl in
-    (b .0, b .1, rising-from xs (suc x) n
-      (λ i y e. (order 0 (suc i) x y (omega arith) refl e, bounds (suc i) y e .1))
-      (λ i j y z h e f. order (suc i) (suc j) y z (omega arith) e f))
+    let b = bounds 0 x refl in (
+      b .0,
+      b .1,
+      rising-from xs (suc x) n
+          (λ i y e. (order 0 (suc i) x y (omega arith) refl e, bounds (suc i) y e .1))
+          (λ i j y z h e f. order (suc i) (suc j) y z (omega arith) e f),
+    )
 
 -- nothing below the start is among a rising list
 below-not-among : (x l n : ℕ) (xs : List ℕ) → Rising l n xs → x < l → among x xs ≡ false
@@ -76,16 +79,16 @@ pick-from (suc d) l n (x ∷ xs) (lx, xn, r) h zero =
     ⊎-elim
     (λ e. pick-here (amongTest (x ∷ xs)) d l 0 (or-left (eqb l x) (among l xs) (eq-eqb l x e)) refl ∙ ap Some e)
     (λ ne. pick-past (amongTest (x ∷ xs)) d l 0 (below-not-among l (suc l) n (x ∷ xs) (omega (arith, ne), xn, r) (omega arith)) ∙
-      pick-from d (l + 1) n (x ∷ xs) (omega (arith, ne), xn, r) (omega arith) zero)
+    pick-from d (l + 1) n (x ∷ xs) (omega (arith, ne), xn, r) (omega arith) zero)
     (cases-eq l x)
 pick-from (suc d) l n (x ∷ xs) (lx, xn, r) h (suc k) =
     ⊎-elim
     (λ e.
-      pick-next (amongTest (x ∷ xs)) d l (suc k) k (or-left (eqb l x) (among l xs) (eq-eqb l x e)) refl ∙
-      pick-same (amongTest (x ∷ xs)) (amongTest xs) d (l + 1) k (λ y le. ap (λ b. b || among y xs) (ne-eqb y x (λ is. omega arith))) ∙
-      pick-from d (l + 1) n xs (subst (λ z. Rising z n xs) (let s : suc x ≡ l + 1 = omega arith in s) r) (omega arith) k)
+    pick-next (amongTest (x ∷ xs)) d l (suc k) k (or-left (eqb l x) (among l xs) (eq-eqb l x e)) refl ∙
+    pick-same (amongTest (x ∷ xs)) (amongTest xs) d (l + 1) k (λ y le. ap (λ b. b || among y xs) (ne-eqb y x (λ is. omega arith))) ∙
+    pick-from d (l + 1) n xs (subst (λ z. Rising z n xs) (let s : suc x ≡ l + 1 = omega arith in s) r) (omega arith) k)
     (λ ne. pick-past (amongTest (x ∷ xs)) d l (suc k) (below-not-among l (suc l) n (x ∷ xs) (omega (arith, ne), xn, r) (omega arith)) ∙
-      pick-from d (l + 1) n (x ∷ xs) (omega (arith, ne), xn, r) (omega arith) (suc k))
+    pick-from d (l + 1) n (x ∷ xs) (omega (arith, ne), xn, r) (omega arith) (suc k))
     (cases-eq l x)
 
 pub pick-rising : (g : ℕ → Bool) (n : ℕ) (xs : List ℕ) → Rising 0 n xs → ((x : ℕ) → g x ≡ among x xs) → (k : ℕ) → pick g n 0 k ≡ nth xs k

@@ -75,8 +75,8 @@ module _ (p : Plan) (q : ℕ) (open′ : ltb q (p .pairs) ≡ true) where
       let above = among l (way up a) in
       same-tests (firstTest p q l) (among l (told p .first q))
       (λ e.
-        let h = and-parts (onRoad (told p) l q) above e in
-        ⊎-elim (λ f. f) (λ f. absurd (both-ways above (leg-above up (plan-falls p) b a l f .1) (h .1))) (or-cases (among l (told p .first q)) (among l (told p .second q)) (sides l (h .0))))
+      let h = and-parts (onRoad (told p) l q) above e in
+      ⊎-elim (λ f. f) (λ f. absurd (both-ways above (leg-above up (plan-falls p) b a l f .1) (h .1))) (or-cases (among l (told p .first q)) (among l (told p .second q)) (sides l (h .0))))
       (λ e. and-from (onRoad (told p) l q) above (on-first l e) (leg-above up (plan-falls p) a b l e .0))
   leg-tested Second l =
       let up = broaderOf p in
@@ -86,11 +86,11 @@ module _ (p : Plan) (q : ℕ) (open′ : ltb q (p .pairs) ≡ true) where
       let on = onRoad (told p) l q in
       same-tests (on && not (firstTest p q l)) (among l (told p .second q))
       (λ e.
-        let h = and-parts on (not (firstTest p q l)) e in
-        ⊎-elim
-        (λ f. absurd (both-ways (firstTest p q l) (not-true (firstTest p q l) (h .1)) (and-from on above (h .0) (leg-above up (plan-falls p) a b l f .0))))
-        (λ f. f)
-        (or-cases (among l (told p .first q)) (among l (told p .second q)) (sides l (h .0))))
+      let h = and-parts on (not (firstTest p q l)) e in
+      ⊎-elim
+      (λ f. absurd (both-ways (firstTest p q l) (not-true (firstTest p q l) (h .1)) (and-from on above (h .0) (leg-above up (plan-falls p) a b l f .0))))
+      (λ f. f)
+      (or-cases (among l (told p .first q)) (among l (told p .second q)) (sides l (h .0))))
       (λ e. and-from on (not (firstTest p q l)) (on-second l e) (not-from-false (firstTest p q l) (and-right on above (leg-above up (plan-falls p) b a l e .1))))
 
 -- what is picked by the test of a leg is what stands on it

@@ -10,7 +10,8 @@ pub fn first_closed<B: RoadBook>(book: &B, pairs: &[u16]) -> Option<u16>
 {
     for pair in pairs {
         if !book.is_open(*pair) {
-            return Some(*pair);
+            let closed = *pair;
+            return Some(closed);
         }
     }
     None

@@ -17,6 +17,7 @@ cast-ranks c =
 pub loop-pair-again : need.loop-pair-again
 loop-pair-again c =
     let g = rankAt (told (now (c .args .book .now .plan))) in
-    let i = c .loop-pair .inv in
-    (length-set (c .loop-pair .ranks) (c .loop-pair .pair) (c .rank .result) ∙ i .0,
-     places-more g (c .loop-pair .ranks) (c .loop-pair .pair) (c .rank .result) (i .1) (omega (arith, i .0)) (c .rank .ensures))
+    let i = c .loop-pair .inv in (
+      length-set (c .loop-pair .ranks) (c .loop-pair .pair) (c .rank .result) ∙ i .0,
+      places-more g (c .loop-pair .ranks) (c .loop-pair .pair) (c .rank .result) (i .1) (omega (arith, i .0)) (c .rank .ensures),
+    )

@@ -27,15 +27,17 @@ loop-link-again c =
     let more : 256 - l ≡ suc (255 - l) = omega arith in
     let rest : 256 - (l + 1) ≡ 255 - l = omega arith in
     elim (c .if-is-on-leg .came) [
-      | then-is-on-leg·else-passed-place w ↦
-        (omega (arith, inv .0, w .passed-is, w .if-passed-place .left),
-         ap (λ d. pick g d (l + 1) (k - c .if-is-on-leg .passed)) rest ∙
-         sym (pick-next g (255 - l) l n (k - c .if-is-on-leg .passed) (sym (w .if-is-on-leg .ensures tt)) (omega (arith, inv .0, w .passed-is, w .if-passed-place .left))) ∙
-         ap (λ d. pick g d l n) (sym more) ∙ inv .1)
-      | else-is-on-leg w ↦
-        (omega (arith, inv .0, w .passed-is),
-         ap (λ d. pick g d (l + 1) (k - c .if-is-on-leg .passed)) rest ∙ ap (λ i. pick g (255 - l) (l + 1) (k - i)) (w .passed-is) ∙
-         sym (pick-past g (255 - l) l n (sym (w .if-is-on-leg .ensures tt))) ∙ ap (λ d. pick g d l n) (sym more) ∙ inv .1)
+      | then-is-on-leg·else-passed-place w ↦ (
+        omega (arith, inv .0, w .passed-is, w .if-passed-place .left),
+        ap (λ d. pick g d (l + 1) (k - c .if-is-on-leg .passed)) rest ∙
+            sym (pick-next g (255 - l) l n (k - c .if-is-on-leg .passed) (sym (w .if-is-on-leg .ensures tt)) (omega (arith, inv .0, w .passed-is, w .if-passed-place .left))) ∙
+            ap (λ d. pick g d l n) (sym more) ∙ inv .1,
+      )
+      | else-is-on-leg w ↦ (
+        omega (arith, inv .0, w .passed-is),
+        ap (λ d. pick g d (l + 1) (k - c .if-is-on-leg .passed)) rest ∙ ap (λ i. pick g (255 - l) (l + 1) (k - i)) (w .passed-is) ∙
+            sym (pick-past g (255 - l) l n (sym (w .if-is-on-leg .ensures tt))) ∙ ap (λ d. pick g d l n) (sym more) ∙ inv .1,
+      )
     ]
 
 pub returns : need.returns
