@@ -1,9 +1,16 @@
 // Tests of the program as a whole: files and lines in, printed text out.
 #[cfg(test)]
 mod tests {
+    use book::RoadBook;
+    use book::Sheet;
+    use book::SheetRoads;
     use lines::mark;
+    use plan::Plan;
     use std::alloc::Global;
     use std::test::*;
+    use working::Step;
+    use working::Working;
+    use working::WorkingRest;
 
     // seven terms; broader terms 0, 0, 1, 1, 2, 2; pairs (3,4), (4,5), (5,6), (1,3); budget 2
     const SAMPLE: &[u8] = &[0x03, 0x81, 0x00, 0x80, 0x25, 0x27, 0x25, 0xB8, 0xB0];
@@ -78,22 +85,85 @@ mod tests {
                     "left 1\nno 2 11 1\nno 3 9 1\nleft 0\n",
                 ),
                 (
-                    SAMPLE,
-                    b"e 1 1\ne 9 1\np 0 0\np 0 9\nu 3 9\no 3 0 0 3",
-                    "no 1 9 1\nno 2 8 9\nno 3 9 0\nno 4 8 9\nno 5 8 9\nno 6 9 0\n",
-                ),
-                (
-                    SAMPLE,
-                    b"u 3 3\nu 5 2\no 5 1 2\nu 6 2\nn 1\n",
-                    "left 1\nno 2 11 5\nleft 0\nno 4 8 2\nno 5 8 1\n",
-                ),
-                (TIGHT, b"n 2 3\nn 2 3\ni 1", "none\nno 2 6 0\nno 3 6 0\n"),
-                (
                     TIGHT,
                     b"u 3 3\nu 5 1\nf 1 2\nn 2",
                     "left 0\nno 2 10 5\nleft 0\nnone\n",
                 ),
             ],
         )
+    }
+
+    // One line for each way in which each step is refused.
+    #[test]
+    fn refused_steps(rt: LibcRuntime) -> Result<(), Fail> {
+        prints(
+            rt.alloc(),
+            &[
+                (SAMPLE, b"i 0\ni 7\ni 3", "no 1 8 0\nno 2 8 7\nno 3 11 3\n"),
+                (
+                    SAMPLE,
+                    b"e 7 1\ne 1 7\ne 1 1\ne 3 4",
+                    "no 1 8 7\nno 2 8 7\nno 3 9 1\nno 4 11 3\n",
+                ),
+                (
+                    SAMPLE,
+                    b"u 7 0\nu 3 4\nu 3 0",
+                    "no 1 8 7\nno 2 8 4\nno 3 11 3\n",
+                ),
+                (
+                    SAMPLE,
+                    b"p 4 0\np 0 4\np 0 0\np 0 3",
+                    "no 1 8 4\nno 2 8 4\nno 3 9 0\nno 4 11 0\n",
+                ),
+                (
+                    SAMPLE,
+                    b"f 0 1 2\nf 4 1 2 3\nf 0 1 2 9\nf 0 1 2 0\nf 0 1 1 2\nf 3 0 1 2",
+                    "no 1 7 2\nno 2 8 4\nno 3 8 9\nno 4 9 0\nno 5 9 1\nno 6 11 3\n",
+                ),
+                (
+                    SAMPLE,
+                    b"o 3 0\no 7 0 1 2\no 3 0 1 9\no 3 0 3 0\no 3 0 1 3",
+                    "no 1 7 1\nno 2 8 7\nno 3 8 9\nno 4 9 0\nno 5 11 3\n",
+                ),
+                (
+                    SAMPLE,
+                    b"n 0\nn 0 1 9\nn 0 1 0\nn 0 1 2",
+                    "no 1 7 1\nno 2 8 9\nno 3 9 0\nno 4 11 0\n",
+                ),
+                (
+                    TIGHT,
+                    b"u 3 3\nu 5 1\no 5 1",
+                    "left 0\nno 2 10 5\nno 3 10 5\n",
+                ),
+                (
+                    TIGHT,
+                    b"n 2 3\ni 1\ne 1 2\nu 3 3\np 3 0\nf 1 0 2\no 1 1 2\nn 2 3",
+                    "none\nno 2 6 0\nno 3 6 0\nno 4 6 0\nno 5 6 0\nno 6 6 0\nno 7 6 0\nno 8 6 0\n",
+                ),
+            ],
+        )
+    }
+
+    fn unit_road(link: u16, pair: u16) -> Step<'static> {
+        Step::UnitRoad(link, pair)
+    }
+
+    fn dominated_link(link: u16, by: u16) -> Step<'static> {
+        Step::DominatedLink(link, by)
+    }
+
+    // A working over another's rest takes its marks over, and adds none to it.
+    #[test]
+    fn trial_over_a_rest() -> Result<(), Fail> {
+        let mut plan = Plan::fresh();
+        check(plan.read(SAMPLE).is_ok())?;
+        let sheet = Sheet::new(&plan);
+        let mut working = Working::lay(&sheet, 2);
+        check(working.step(unit_road(3, 3)).is_ok())?;
+        let mut trial = Working::lay(&working, working.left());
+        check(trial.step(dominated_link(1, 2)).is_ok())?;
+        check(!trial.is_live(3) && !trial.is_open(0) && trial.is_open(1))?;
+        check(!trial.is_live(1) && working.is_live(1))?;
+        check_eq(trial.left(), 1)
     }
 }

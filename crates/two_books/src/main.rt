@@ -1,7 +1,8 @@
-// Asks the climbing book and the sheet every question on some plans, and says whether they agree; the time that the
+// Tells the roads of a small plan by both books, to be compared with what was worked out by hand; then asks the climbing book and the sheet every question on some plans, and says whether they agree; the time that the
 // questions take goes to standard error.
 mod bytes;
 mod questions;
+mod sample;
 
 use book::ClimbingBook;
 use book::ClimbingRoads;
@@ -12,6 +13,7 @@ use bytes::packed;
 use plan::Plan;
 use questions::disagreements;
 use questions::time_questions;
+use sample::tell_sample;
 use std::io;
 
 fn compare(rt: &LibcRuntime, name: &str, shape: Shape) -> io::Result<()> {
@@ -29,6 +31,7 @@ fn compare(rt: &LibcRuntime, name: &str, shape: Shape) -> io::Result<()> {
 }
 
 fn main(rt: LibcRuntime) -> io::Result<()> {
+    tell_sample(&rt)?;
     compare(&rt, "path", Shape::Path)?;
     compare(&rt, "star", Shape::Star)?;
     compare(&rt, "caterpillar", Shape::Caterpillar)?;
