@@ -3,8 +3,8 @@
 --     onRoad m l p        link l is live, pair p is open, and l stands on a leg of p
 --     rankAt, linkAt      the rank and the links of an open pair; 0 and nothing for any other
 --     Different xs        no number stands at two places of xs
---     TreeLaw m           where two open pairs share a link and the first's rank is not the greater, the first's road
---                         has every link from the top of any leg of the second that holds it down to that link
+--     TreeLaw m           if l is on the road of p and on a leg of q, and p does not turn deeper than q, then all that stands
+--                         on that leg of q above l is on the road of p too
 --     Lawful m            the limits, legs of different live links, and the tree law
 use mathlib.Core.Bool.{Bool, true, _&&_, _||_, cond}
 use mathlib.Core.List.{List}
