@@ -1,4 +1,6 @@
 // Road-books: anything that tells which links are on which pair's road, and obeys the tree law.
+#![tactic(auto)]
+
 mod climbing;
 mod leg;
 mod promises;

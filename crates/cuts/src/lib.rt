@@ -1,4 +1,6 @@
 // Cuts: why no reduction step loses anything. Theory alone: each function does nothing, and its contract is a theorem.
+#![tactic(auto)]
+
 mod bounds;
 mod conditions;
 mod examples;

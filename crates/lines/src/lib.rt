@@ -1,4 +1,6 @@
 // The marker's lines: a line in, a call made, bytes out.
+#![tactic(auto)]
+
 mod call;
 mod calls;
 mod letters;

@@ -1,4 +1,6 @@
 // Tests of the program as a whole: files and lines in, printed text out.
+#![tactic(auto)]
+
 #[cfg(test)]
 mod tests {
     use book::RoadBook;

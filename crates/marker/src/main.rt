@@ -1,4 +1,6 @@
 // The marker's program: the file `plan` and standard input in, standard output out.
+#![tactic(auto)]
+
 use lines::mark;
 use std::io::{Read, Write};
 use std::{fs, io};

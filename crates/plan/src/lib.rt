@@ -1,4 +1,6 @@
 // Plans: a tree of terms, the pairs of terms to separate, and a budget; and where each of its numbers stands in a packed file.
+#![tactic(auto)]
+
 mod accessors;
 mod field_width;
 mod fresh;

@@ -1,4 +1,6 @@
 // Laws of plans and their files: reading and packing undo each other, and every file is read in one way.
+#![tactic(auto)]
+
 mod files;
 mod samples;
 

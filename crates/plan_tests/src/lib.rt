@@ -1,4 +1,6 @@
 // Files made by hand, read and packed again.
+#![tactic(auto)]
+
 #[cfg(test)]
 mod damaged;
 #[cfg(test)]

@@ -1,4 +1,6 @@
 // Reading: a plan from its packed bytes.
+#![tactic(auto)]
+
 mod bits;
 mod reading;
 

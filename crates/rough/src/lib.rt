@@ -1,4 +1,6 @@
 // The rough cut: a cut of any road-book with at most twice the fewest links, and the pairs that show it.
+#![tactic(auto)]
+
 mod call;
 mod listed;
 mod listing;

@@ -1,5 +1,7 @@
 // Tests of the rough cut over the climbing book.
 
+#![tactic(auto)]
+
 #[cfg(test)]
 mod tests {
     use book::ClimbingBook;

@@ -1,4 +1,6 @@
 // What each reduction rule asks of the roads, asked of any road-book.
+#![tactic(auto)]
+
 mod all;
 mod common;
 mod faulty;

@@ -1,4 +1,6 @@
 // Runs: what the steps of a working come to, by the theory of cuts.
+#![tactic(auto)]
+
 ghost use Rattle.book.specs.Meaning.{Lawful, Meaning};
 ghost use Rattle.book.specs.Posed.{posed};
 ghost use Rattle.cuts.specs.Steps.{Admitted, Step};

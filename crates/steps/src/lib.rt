@@ -1,4 +1,6 @@
 // Steps: each of the seven, checked against any road-book and what is left. Nothing is marked here.
+#![tactic(auto)]
+
 mod lists;
 mod singles;
 mod step;

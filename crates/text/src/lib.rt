@@ -1,4 +1,6 @@
 // The text that the program reads: its lines, and the numbers of a line.
+#![tactic(auto)]
+
 mod line_reader;
 mod numbers;
 mod scan;

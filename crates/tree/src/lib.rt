@@ -1,4 +1,6 @@
 // The tree of a plan: the ways from term 0 down to the terms, the roads between terms, and the laws of both.
+#![tactic(auto)]
+
 mod climbing;
 mod laws;
 

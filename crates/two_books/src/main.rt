@@ -1,6 +1,8 @@
 // Tells the roads of a small plan by both books, to be compared with what was worked out by hand; then asks the climbing
 // book and the sheet every question on some plans, and for a rough cut, and says whether they agree; the time that this
 // takes goes to standard error.
+#![tactic(auto)]
+
 mod bytes;
 mod questions;
 mod rough_cuts;

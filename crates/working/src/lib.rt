@@ -1,4 +1,6 @@
 // Workings: an editor's steps over any road-book, and the rest that they leave.
+#![tactic(auto)]
+
 mod admitted;
 mod laying;
 mod rest;

@@ -36,4 +36,4 @@ pub returns : goal.returns
 returns c =
     let bs = c.args.bytes.now in
     let all = ap few (sym (ap (behind (vec_items c.loop-b.numbers)) (scan_all bs c.loop-b.b-index c.loop-b.scan c.loop-b-test.false)) ∙ c.loop-b.invariant) in
-    IfOk-weaker c.at-end.result _ _ (λ o e. e ∙ all) c.at-end.ensures
+    IfOk-weaker c.at_end.result _ _ (λ o e. e ∙ all) c.at_end.ensures
