@@ -8,7 +8,7 @@ use book::RoadBook;
 
 // The dropped pairs, and with them all whose roads pass the link.
 pub fn with_passing<B: RoadBook>(book: &B, link: u16, mut dropped: [bool; 256]) -> [bool; 256]
-    ensures { result ≡ drop_where ((posed (meaning book.now)).on link) (meaning book.now).pairs dropped }
+    ensures { result ≡ drop_where ((posed (B.meaning book.now)).on link) (B.meaning book.now).pairs dropped }
 {
     for pair in 0..book.pairs() {
         if book.on_road(link, pair) {

@@ -56,11 +56,11 @@ pub fn rough<B: RoadBook>(
     links: &mut [u16],
     apart: &mut [u16],
 ) -> Result<(usize, usize), RoughFault>
-    ensures counts { result ≡ answer (meaning book.now) (length links.old) (length apart.old) }
-    ensures cut { links.new ≡ laid result (links_of (meaning book.now)) links.old }
-    ensures pairs { apart.new ≡ laid result (apart_of (meaning book.now)) apart.old }
-    ensures promise { Promised (meaning book.now) result links.new apart.new }
-    ensures room { 256 ≤ length links.old → 256 ≤ length apart.old → result ≡ roomy_answer (meaning book.now) }
+    ensures counts { result ≡ answer (B.meaning book.now) (length links.old) (length apart.old) }
+    ensures cut { links.new ≡ laid result (links_of (B.meaning book.now)) links.old }
+    ensures pairs { apart.new ≡ laid result (apart_of (B.meaning book.now)) apart.old }
+    ensures promise { Promised (B.meaning book.now) result links.new apart.new }
+    ensures room { 256 ≤ length links.old → 256 ≤ length apart.old → result ≡ roomy_answer (B.meaning book.now) }
 {
     if let Some(pair) = lowest_empty(book) {
         return Err(RoughFault::EmptyRoad(pair));

@@ -8,7 +8,7 @@ use book::RoadBook;
 
 // The rank of each pair, asked once.
 pub(crate) fn ranks_of<B: RoadBook>(book: &B) -> [u16; 256]
-    ensures { (p : ℕ) → numbered result p ≡ rank_at (meaning book.now) p }
+    ensures { (p : ℕ) → numbered result p ≡ rank_at (B.meaning book.now) p }
 {
     let mut ranks = [0; 256];
     for pair in 0..256 {
@@ -20,7 +20,7 @@ pub(crate) fn ranks_of<B: RoadBook>(book: &B) -> [u16; 256]
 // The pairs to go through.
 pub(crate) fn open_pairs<B: RoadBook>(book: &B) -> [bool; 256]
     ensures long { length result ≡ 256 }
-    ensures opened { (p : ℕ) → held result p ≡ (meaning book.now).opened p }
+    ensures opened { (p : ℕ) → held result p ≡ (B.meaning book.now).opened p }
 {
     let mut left = [false; 256];
     for pair in 0..256 {

@@ -9,7 +9,7 @@ use book::{Leg, RoadBook};
 
 // Whether an open pair has no link on its road.
 fn has_empty_road<B: RoadBook>(book: &B, pair: u16) -> bool
-    ensures { result ≡ empty_road (meaning book.now) pair }
+    ensures { result ≡ empty_road (B.meaning book.now) pair }
 {
     if !book.is_open(pair) {
         return false;
@@ -22,7 +22,7 @@ fn has_empty_road<B: RoadBook>(book: &B, pair: u16) -> bool
 
 // The lowest of these pairs.
 pub(crate) fn lowest_empty<B: RoadBook>(book: &B) -> Option<u16>
-    ensures { result ≡ lowest (empty_road (meaning book.now)) (meaning book.now).pairs }
+    ensures { result ≡ lowest (empty_road (B.meaning book.now)) (B.meaning book.now).pairs }
 {
     for pair in 0..book.pairs() {
         if has_empty_road(book, pair) {
@@ -34,7 +34,7 @@ pub(crate) fn lowest_empty<B: RoadBook>(book: &B) -> Option<u16>
 
 // Whether a chosen link is on the pair's road.
 pub(crate) fn is_met<B: RoadBook>(book: &B, chosen: &[bool; 256], pair: u16) -> bool
-    ensures { result ≡ meets (posed (meaning book.now)) (held chosen.now) pair }
+    ensures { result ≡ meets (posed (B.meaning book.now)) (held chosen.now) pair }
 {
     for link in 0..book.highest() + 1 {
         if chosen[link as usize] && book.on_road(link, pair) {

@@ -14,14 +14,14 @@ use book::{Leg, RoadBook};
 
 // The link at the top of a leg, next to the turning term.
 fn top_link<B: RoadBook>(book: &B, pair: u16, leg: Leg) -> Option<u16>
-    ensures { result ≡ link_at (meaning book.now) leg pair 0 }
+    ensures { result ≡ link_at (B.meaning book.now) leg pair 0 }
 {
     book.link_at(pair, leg, 0)
 }
 
 fn choose_top<B: RoadBook>(book: &B, chosen: &mut [bool; 256], pair: u16, leg: Leg)
-    requires { (meaning book.now).opened pair ≡ true }
-    ensures { held chosen.new ≡ union (held chosen.old) (top (leg_of (meaning book.now) leg pair)) }
+    requires { (B.meaning book.now).opened pair ≡ true }
+    ensures { held chosen.new ≡ union (held chosen.old) (top (leg_of (B.meaning book.now) leg pair)) }
 {
     if let Some(link) = top_link(book, pair, leg) {
         chosen[link as usize] = true;
@@ -30,8 +30,8 @@ fn choose_top<B: RoadBook>(book: &B, chosen: &mut [bool; 256], pair: u16, leg: L
 
 // Chooses the top link of each leg that has one.
 fn choose_tops<B: RoadBook>(book: &B, chosen: &mut [bool; 256], pair: u16)
-    requires { (meaning book.now).opened pair ≡ true }
-    ensures { held chosen.new ≡ with_tops (meaning book.now) (held chosen.old) pair }
+    requires { (B.meaning book.now).opened pair ≡ true }
+    ensures { held chosen.new ≡ with_tops (B.meaning book.now) (held chosen.old) pair }
 {
     choose_top(book, chosen, pair, Leg::First);
     choose_top(book, chosen, pair, Leg::Second);
@@ -39,10 +39,10 @@ fn choose_tops<B: RoadBook>(book: &B, chosen: &mut [bool; 256], pair: u16)
 
 // A pair that no chosen link meets is written down, and its tops are chosen.
 fn take_up<B: RoadBook>(book: &B, chosen: &mut [bool; 256], apart: &mut Listed, pair: u16)
-    requires opened { (meaning book.now).opened pair ≡ true }
+    requires opened { (B.meaning book.now).opened pair ≡ true }
     requires room { apart.old.count < 256 }
-    ensures chosen { held chosen.new ≡ (if meets (posed (meaning book.now)) (held chosen.old) pair then held chosen.old else with_tops (meaning book.now) (held chosen.old) pair) }
-    ensures apart { listed apart.new ≡ (if meets (posed (meaning book.now)) (held chosen.old) pair then listed apart.old else listed apart.old ++ (pair ∷ [])) }
+    ensures chosen { held chosen.new ≡ (if meets (posed (B.meaning book.now)) (held chosen.old) pair then held chosen.old else with_tops (B.meaning book.now) (held chosen.old) pair) }
+    ensures apart { listed apart.new ≡ (if meets (posed (B.meaning book.now)) (held chosen.old) pair then listed apart.old else listed apart.old ++ (pair ∷ [])) }
 {
     if is_met(book, chosen, pair) {
         return;
@@ -53,7 +53,7 @@ fn take_up<B: RoadBook>(book: &B, chosen: &mut [bool; 256], apart: &mut Listed, 
 
 // The links chosen and the pairs written down, once all open pairs are gone through.
 pub(crate) fn go_through<B: RoadBook>(book: &B) -> ([bool; 256], Listed)
-    ensures { gone_by result.0 result.1 ≡ gone (meaning book.now) }
+    ensures { gone_by result.0 result.1 ≡ gone (B.meaning book.now) }
 {
     let ranks = ranks_of(book);
     let pairs = book.pairs();

@@ -9,7 +9,7 @@ use book::RoadBook;
 
 // Idle link: no open road passes the link.
 pub fn passes_no_road<B: RoadBook>(book: &B, link: u16) -> bool
-    ensures { result ≡ all_pairs (posed (meaning book.now)) (off_road (posed (meaning book.now)) link) }
+    ensures { result ≡ all_pairs (posed (B.meaning book.now)) (off_road (posed (B.meaning book.now)) link) }
 {
     for pair in 0..book.pairs() {
         if book.on_road(link, pair) {
@@ -21,7 +21,7 @@ pub fn passes_no_road<B: RoadBook>(book: &B, link: u16) -> bool
 
 // Unit path: the road of the pair is the link alone.
 pub fn is_road_alone<B: RoadBook>(book: &B, link: u16, pair: u16) -> bool
-    ensures { result ≡ (on_road (meaning book.now) link pair && all_links (posed (meaning book.now)) (sole_on (posed (meaning book.now)) link pair)) }
+    ensures { result ≡ (on_road (B.meaning book.now) link pair && all_links (posed (B.meaning book.now)) (sole_on (posed (B.meaning book.now)) link pair)) }
 {
     if !book.on_road(link, pair) {
         return false;
@@ -36,7 +36,7 @@ pub fn is_road_alone<B: RoadBook>(book: &B, link: u16, pair: u16) -> bool
 
 // Dominated link: every open road through the link passes the other.
 pub fn is_always_with<B: RoadBook>(book: &B, link: u16, other: u16) -> bool
-    ensures { result ≡ all_pairs (posed (meaning book.now)) (follows (posed (meaning book.now)) link other) }
+    ensures { result ≡ all_pairs (posed (B.meaning book.now)) (follows (posed (B.meaning book.now)) link other) }
 {
     for pair in 0..book.pairs() {
         if book.on_road(link, pair) && !book.on_road(other, pair) {
@@ -48,7 +48,7 @@ pub fn is_always_with<B: RoadBook>(book: &B, link: u16, other: u16) -> bool
 
 // Dominated pair: every link of the inner pair's road is on the outer pair's.
 pub fn is_road_within<B: RoadBook>(book: &B, inner: u16, outer: u16) -> bool
-    ensures { result ≡ all_links (posed (meaning book.now)) (also_on (posed (meaning book.now)) inner outer) }
+    ensures { result ≡ all_links (posed (B.meaning book.now)) (also_on (posed (B.meaning book.now)) inner outer) }
 {
     for link in 0..book.highest() + 1 {
         if book.on_road(link, inner) && !book.on_road(link, outer) {

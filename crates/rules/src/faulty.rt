@@ -7,7 +7,7 @@ use book::RoadBook;
 
 // The first listed pair that is not open.
 pub fn first_closed<B: RoadBook>(book: &B, pairs: &[u16]) -> Option<u16>
-    ensures { result ≡ first_closed (meaning book.now).opened pairs.now }
+    ensures { result ≡ first_closed (B.meaning book.now).opened pairs.now }
 {
     for pair in pairs {
         if !book.is_open(*pair) {

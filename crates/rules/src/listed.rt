@@ -9,7 +9,7 @@ use book::RoadBook;
 
 // Overloaded link: the roads of all listed pairs pass the link.
 pub fn all_pass<B: RoadBook>(book: &B, link: u16, pairs: &[u16]) -> bool
-    ensures { result ≡ all_of ((posed (meaning book.now)).on link) pairs.now }
+    ensures { result ≡ all_of ((posed (B.meaning book.now)).on link) pairs.now }
 {
     for pair in pairs {
         if !book.on_road(link, *pair) {
@@ -20,7 +20,7 @@ pub fn all_pass<B: RoadBook>(book: &B, link: u16, pairs: &[u16]) -> bool
 }
 
 fn may_share<B: RoadBook>(book: &B, common: Common, link: u16) -> bool
-    ensures { result ≡ may_share (posed (meaning book.now)) common link }
+    ensures { result ≡ may_share (posed (B.meaning book.now)) common link }
 {
     match common {
         Common::RoadOf(pair) => book.on_road(link, pair),
@@ -30,7 +30,7 @@ fn may_share<B: RoadBook>(book: &B, common: Common, link: u16) -> bool
 }
 
 fn two_share_only<B: RoadBook>(book: &B, common: Common, p: u16, q: u16) -> bool
-    ensures { result ≡ share_only (posed (meaning book.now)) common p q }
+    ensures { result ≡ share_only (posed (B.meaning book.now)) common p q }
 {
     for link in 0..book.highest() + 1 {
         if book.on_road(link, p) && book.on_road(link, q) && !may_share(book, common, link) {
@@ -41,7 +41,7 @@ fn two_share_only<B: RoadBook>(book: &B, common: Common, p: u16, q: u16) -> bool
 }
 
 fn each_shares_only<B: RoadBook>(book: &B, common: Common, pairs: &[u16], q: u16) -> bool
-    ensures { result ≡ all_of (towards (share_only (posed (meaning book.now)) common) q) pairs.now }
+    ensures { result ≡ all_of (towards (share_only (posed (B.meaning book.now)) common) q) pairs.now }
 {
     for pair in pairs {
         if !two_share_only(book, common, *pair, q) {
@@ -53,7 +53,7 @@ fn each_shares_only<B: RoadBook>(book: &B, common: Common, pairs: &[u16], q: u16
 
 // Any two of the listed pairs share no link but those that they may have in common.
 pub fn share_only<B: RoadBook>(book: &B, common: Common, pairs: &[u16]) -> bool
-    ensures { result ≡ pairwise (share_only (posed (meaning book.now)) common) pairs.now }
+    ensures { result ≡ pairwise (share_only (posed (B.meaning book.now)) common) pairs.now }
 {
     for (i, pair) in pairs.iter().enumerate() {
         if !each_shares_only(book, common, &pairs[0..i], *pair) {

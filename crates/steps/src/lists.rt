@@ -21,7 +21,7 @@ pub fn check_common_factor<B: RoadBook>(
     pair: u16,
     pairs: &[u16],
 ) -> Result<(), StepFault>
-    ensures { Checked (common_factor_refusal (posed (meaning book.now)) left pair pairs.now) result }
+    ensures { Checked (common_factor_refusal (posed (B.meaning book.now)) left pair pairs.now) result }
 {
     if pairs.len() != one_too_many(left) {
         return Err(StepFault::WrongLength(pairs.len()));
@@ -48,7 +48,7 @@ pub fn check_overloaded_link<B: RoadBook>(
     link: u16,
     pairs: &[u16],
 ) -> Result<(), StepFault>
-    ensures { Checked (overloaded_link_refusal (posed (meaning book.now)) left link pairs.now) result }
+    ensures { Checked (overloaded_link_refusal (posed (B.meaning book.now)) left link pairs.now) result }
 {
     if pairs.len() != one_too_many(left) {
         return Err(StepFault::WrongLength(pairs.len()));
@@ -76,7 +76,7 @@ pub fn check_overloaded_link<B: RoadBook>(
 
 // Disjoint pairs: the listed pairs share no link.
 pub fn check_disjoint_pairs<B: RoadBook>(book: &B, left: u8, pairs: &[u16]) -> Result<(), StepFault>
-    ensures { Checked (disjoint_pairs_refusal (posed (meaning book.now)) left pairs.now) result }
+    ensures { Checked (disjoint_pairs_refusal (posed (B.meaning book.now)) left pairs.now) result }
 {
     if pairs.len() != one_too_many(left) {
         return Err(StepFault::WrongLength(pairs.len()));

@@ -8,7 +8,7 @@ use rules::{is_always_with, is_road_alone, is_road_within, passes_no_road};
 
 // Idle link: no open road passes the link.
 pub fn check_idle_link<B: RoadBook>(book: &B, idle: u16) -> Result<(), StepFault>
-    ensures { Checked (idle_link_refusal (posed (meaning book.now)) idle) result }
+    ensures { Checked (idle_link_refusal (posed (B.meaning book.now)) idle) result }
 {
     if !book.is_live(idle) {
         return Err(StepFault::NotLive(idle));
@@ -21,7 +21,7 @@ pub fn check_idle_link<B: RoadBook>(book: &B, idle: u16) -> Result<(), StepFault
 
 // Dominated link: every open road through the link passes the other.
 pub fn check_dominated_link<B: RoadBook>(book: &B, link: u16, by: u16) -> Result<(), StepFault>
-    ensures { Checked (dominated_link_refusal (posed (meaning book.now)) link by) result }
+    ensures { Checked (dominated_link_refusal (posed (B.meaning book.now)) link by) result }
 {
     if !book.is_live(link) {
         return Err(StepFault::NotLive(link));
@@ -45,7 +45,7 @@ pub fn check_unit_road<B: RoadBook>(
     link: u16,
     pair: u16,
 ) -> Result<(), StepFault>
-    ensures { Checked (unit_road_refusal (posed (meaning book.now)) left link pair) result }
+    ensures { Checked (unit_road_refusal (posed (B.meaning book.now)) left link pair) result }
 {
     if !book.is_live(link) {
         return Err(StepFault::NotLive(link));
@@ -64,7 +64,7 @@ pub fn check_unit_road<B: RoadBook>(
 
 // Dominated pair: every link of the inner pair's road is on the outer pair's.
 pub fn check_dominated_pair<B: RoadBook>(book: &B, inner: u16, outer: u16) -> Result<(), StepFault>
-    ensures { Checked (dominated_pair_refusal (posed (meaning book.now)) inner outer) result }
+    ensures { Checked (dominated_pair_refusal (posed (B.meaning book.now)) inner outer) result }
 {
     if !book.is_open(inner) {
         return Err(StepFault::NotOpen(inner));
