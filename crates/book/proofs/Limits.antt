@@ -3,11 +3,11 @@
 --     different_fits            different numbers from 1 to h are at most h many
 --     rank_low                  no rank is over 255
 --     leg_short                 so no leg has more than 255 links
-use Rattle.std.proofs.Common.{◌≡◌, ℕ, zero, suc, ◌<◌, ◌≤◌, Bool, true, not, eqb, List, [], ◌∷◌, length, Some, filter, sym, refl, ap, ◌∙◌, ⊎_elim, arith}
+use Rattle.std.proofs.Common.{◌≡◌, ℕ, zero, suc, ◌<◌, ◌≤◌, Bool, true, not, eqb, List, [], ◌∷◌, length, Some, filter, sym, refl, ap, ◌∙◌, subst, ⊎_elim, arith}
 use Rattle.std.specs.List.{slice_get}
 use Rattle.std.proofs.lemmas.Bool.{and_parts, cases_Bool, cases_eq, cond-false, cond-true, eq-eqb, eqb-false, ne_eqb, not_from_false, not_from_true, not-true}
-use Rattle.tree.proofs.Members.{at_among}
-use Rattle.tree.specs.Tree.{among}
+use Rattle.plan.proofs.Members.{at_among}
+use Rattle.plan.specs.Tree.{among}
 use Rattle.book.specs.Kept.{among_kept, different_rest, keeps, kept_at, kept_different, passes_over}
 use Rattle.book.specs.Meaning.{Different, Lawful, Meaning, leg_of, rank_at}
 use Rattle.book.specs.declared.leg.Leg.{Leg}

@@ -8,7 +8,7 @@
 --     Lawful m            the limits, legs of different live links, and the tree law
 use Rattle.std.specs.Prelude.{◌≡◌, ℕ, ◌<◌, ◌≤◌, Bool, true, cond, ◌&&◌, ◌||◌, List, Some, None, Option}
 use Rattle.std.specs.List.{slice_get}
-use Rattle.tree.specs.Tree.{among}
+use Rattle.plan.specs.Tree.{among}
 use Rattle.book.specs.declared.leg.Leg.{Leg}
 use Rattle.book.specs.declared.leg.Leg.TheVariants.{First, Second}
 

@@ -1,10 +1,10 @@
 -- The instance that a book poses: what counts of its meaning for cuts.
 --     posed m          the live links, the open pairs, and which link is on which road
 --     lawful_sound     the instance of a lawful book is sound
-use Rattle.std.specs.Prelude.{◌&&◌, ◌||◌}
+use Rattle.std.specs.Prelude.{◌≡◌, ℕ, true, ◌&&◌, ◌||◌}
 use Rattle.std.proofs.lemmas.Bool.{and_parts}
 use Rattle.cuts.specs.Instances.{Instance, Sound}
-use Rattle.tree.specs.Tree.{among}
+use Rattle.plan.specs.Tree.{among}
 use Rattle.book.specs.Meaning.{Lawful, Meaning, on_road}
 
 abbrev pub posed : Meaning → Instance

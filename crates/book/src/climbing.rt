@@ -9,7 +9,7 @@ use plan::Plan;
 
 #[derive(Clone, Copy)]
 pub struct ClimbingBook<'a> {
-    pub plan: &'a Plan,
+    pub(crate) plan: &'a Plan,
 }
 
 impl<'a> ClimbingBook<'a> {
@@ -48,7 +48,7 @@ impl<'a> RoadBook for ClimbingBook<'a> {
             return 0;
         }
         let (a, b) = self.plan.ends(pair);
-        tree::rank(self.plan, a, b)
+        self.plan.rank(a, b)
     }
 
     // A link is on the road between two terms exactly when it lies above one of them alone.
@@ -60,7 +60,7 @@ impl<'a> RoadBook for ClimbingBook<'a> {
             return false;
         }
         let (first, second) = self.plan.ends(pair);
-        tree::is_above(self.plan, link, first) != tree::is_above(self.plan, link, second)
+        self.plan.is_above(link, first) != self.plan.is_above(link, second)
     }
 
     // A leg is the way to one of the two terms, from the turning term on.
@@ -69,10 +69,10 @@ impl<'a> RoadBook for ClimbingBook<'a> {
             return None;
         }
         let (first, second) = self.plan.ends(pair);
-        let at = tree::rank(self.plan, first, second).saturating_add(place);
+        let at = self.plan.rank(first, second).saturating_add(place);
         match leg {
-            Leg::First => tree::link_on_way(self.plan, first, at),
-            Leg::Second => tree::link_on_way(self.plan, second, at),
+            Leg::First => self.plan.link_on_way(first, at),
+            Leg::Second => self.plan.link_on_way(second, at),
         }
     }
 }

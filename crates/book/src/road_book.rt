@@ -1,6 +1,6 @@
 // What every road-book answers.
+ghost use Rattle.std.specs.Prelude.{◌≡◌, ℕ};
 ghost use Rattle.book.specs.Meaning.{Lawful, Meaning, link_at, on_road, rank_at};
-ghost use Rattle.std.specs.Prelude.{◌≡◌};
 
 use crate::leg::Leg;
 

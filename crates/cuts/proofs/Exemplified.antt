@@ -21,7 +21,7 @@ broom_sound = drawn_sound 4 ((1 ∷ 2 ∷ []) ∷ (1 ∷ 3 ∷ []) ∷ (1 ∷ 4 
 star_sound : Sound star
 star_sound = drawn_sound 4 ((1 ∷ 2 ∷ []) ∷ (3 ∷ 4 ∷ []) ∷ [])
 
-pub rules_apply : RulesApply 1
+pub rules_apply : RulesApply
 rules_apply = record {
   idle = (step_decided fork fork_sound 1 (idle_link 3)).0 refl;
   link = (step_decided ladder ladder_sound 1 (dominated_link 2 1)).0 refl;
@@ -42,7 +42,7 @@ ladder_admitted =
     let third-sound = (step_reduces second second-sound 1 (dominated_pair 1 0) second-step).sound in
     (first_step, (second-step, ((step_decided third third-sound 1 (unit_road 1 1)).0 refl, tt)))
 
-pub ladder_run : LadderRun 1 0
+pub ladder_run : LadderRun
 ladder_run =
     let rest = after_all ladder ladder_steps in
     let run = listed_run ladder 1 ladder_steps ladder_admitted in

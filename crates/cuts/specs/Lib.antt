@@ -10,3 +10,4 @@ pub mod Runs
 pub mod Drawn
 pub mod Examples
 pub mod Mistakes
+pub mod Promises

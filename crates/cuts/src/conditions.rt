@@ -1,39 +1,34 @@
-// Each rule has a test that computes, and that is true just when the rule applies.
-ghost use Rattle.std.specs.Prelude.{ℕ, List, Decides};
-ghost use Rattle.cuts.specs.Instances.{Instance, Sound};
-ghost use Rattle.cuts.specs.Rules.{CommonFactor, DisjointPairs, DominatedLink, DominatedPair, IdleLink, OverloadedLink, UnitRoad};
-ghost use Rattle.cuts.specs.Steps.{Admitted, Step, is_admitted};
-ghost use Rattle.cuts.specs.Tests.{is_common_factor, is_disjoint_pairs, is_dominated_link, is_dominated_pair, is_idle_link, is_overloaded_link, is_unit_road};
+// Each rule has a test that computes whether it applies.
+ghost use Rattle.cuts.specs.Promises.{IdleLinkDecided, DominatedLinkDecided, UnitRoadDecided, DominatedPairDecided, CommonFactorDecided, OverloadedLinkDecided, DisjointPairsDecided, StepsDecided};
 
 pub fn idle_link_is_decided()
-    ensures { (i : Instance) → Sound i → (l : ℕ) → Decides (is_idle_link i l) (IdleLink i l) }
+    ensures { IdleLinkDecided }
 {}
 
 pub fn dominated_link_is_decided()
-    ensures { (i : Instance) → Sound i → (l h : ℕ) → Decides (is_dominated_link i l h) (DominatedLink i l h) }
+    ensures { DominatedLinkDecided }
 {}
 
 pub fn unit_road_is_decided()
-    ensures { (i : Instance) → Sound i → (l p : ℕ) → Decides (is_unit_road i l p) (UnitRoad i l p) }
+    ensures { UnitRoadDecided }
 {}
 
 pub fn dominated_pair_is_decided()
-    ensures { (i : Instance) → Sound i → (q r : ℕ) → Decides (is_dominated_pair i q r) (DominatedPair i q r) }
+    ensures { DominatedPairDecided }
 {}
 
 pub fn common_factor_is_decided()
-    ensures { (i : Instance) → Sound i → (k r : ℕ) (qs : List ℕ) → Decides (is_common_factor i k r qs) (CommonFactor i k r qs) }
+    ensures { CommonFactorDecided }
 {}
 
 pub fn overloaded_link_is_decided()
-    ensures { (i : Instance) → Sound i → (k l : ℕ) (qs : List ℕ) → Decides (is_overloaded_link i k l qs) (OverloadedLink i k l qs) }
+    ensures { OverloadedLinkDecided }
 {}
 
 pub fn disjoint_pairs_are_decided()
-    ensures { (i : Instance) → Sound i → (k : ℕ) (qs : List ℕ) → Decides (is_disjoint_pairs i k qs) (DisjointPairs i k qs) }
+    ensures { DisjointPairsDecided }
 {}
 
-// Any step, with the 1 that must be left where it cuts.
 pub fn steps_are_decided()
-    ensures { (i : Instance) → Sound i → (k : ℕ) (s : Step) → Decides (is_admitted i k s) (Admitted i k s) }
+    ensures { StepsDecided }
 {}

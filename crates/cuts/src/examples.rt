@@ -1,12 +1,12 @@
 // Each rule at work on a small example, and a run from beginning to end.
 ghost use Rattle.cuts.specs.Examples.{LadderRun, RulesApply};
 
-// No rule is empty: with one link left each applies to one of four small instances.
+// No rule is empty: each applies to one of four small instances.
 pub fn rules_apply()
-    ensures { RulesApply 1 }
+    ensures { RulesApply }
 {}
 
-// Three steps solve an instance of two links and two pairs: it needs one link, and what remains needs none.
+// Three steps solve an instance of two links and two pairs.
 pub fn ladder_is_solved()
-    ensures { LadderRun 1 0 }
+    ensures { LadderRun }
 {}

@@ -1,2 +1,4 @@
+pub mod Letters
 pub mod Runs
-pub mod Spelt
+pub mod Scans
+pub mod Splits

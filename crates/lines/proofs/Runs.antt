@@ -1,12 +1,12 @@
 -- What has been printed, from line to line.
 --     run_more    one line more
 --     run_all     no line is left
-use Rattle.std.proofs.Common.{◌≡◌, ℕ, ◌+◌, ◌≤◌, List, ◌∷◌, ◌++◌, length, drop, sym, ap, ◌∙◌, append_assoc}
+use Rattle.std.proofs.Common.{◌≡◌, ℕ, ◌+◌, ◌≤◌, List, [], ◌∷◌, ◌++◌, length, drop, sym, refl, ap, ◌∙◌, subst, append_assoc}
 use Rattle.std.proofs.lemmas.List.{append-nil, drop_all}
 use Rattle.book.specs.Meaning.{Meaning}
-use Rattle.marks.specs.declared.tally.Tally.{Tally}
+use Rattle.working.specs.declared.tally.Tally.{Tally}
 use Rattle.lines.specs.Calls.{line_judged, tally_after}
-use Rattle.text.specs.Lines.{lines_of}
+use Rattle.lines.specs.Lines.{lines_of}
 use Rattle.lines.specs.Printed.{line_said, run_said}
 
 module _ (m : Meaning) (t : Tally) (n : ℕ) (out all : List ℕ) where

@@ -1,27 +1,23 @@
 -- The bytes that the program prints.
 --     refusal_line n a b      `no`, the number n of the line (0 for the plan), the refusal a and its place b
---     state_line s k          what is left after a step, or `none`
---     rough_line a b          `rough`, how many links the rough cut has, and how many pairs are apart
---     line_said n j           what line number n prints, which j judges
+--     step_line t             what is left after a step, or `none`
+--     line_said n j t         what line number n prints, which j judges, and after which the tally is t
 --     run_said m t n ls       what the lines ls print, the first of them line number n, in a working with the tally t over a
 --                            book that tells m
 --     Prints file input bs   the program prints bs
 use Rattle.std.specs.Prelude.{◌≡◌, ℕ, ◌+◌, ◌⊎◌, List, [], ◌∷◌, ◌++◌, Ok, Err, codes, decimal}
-use Rattle.faults.specs.Refusals.{plan_number, plan_place}
-use Rattle.faults.specs.declared.fault.PlanFault.{PlanFault}
 use Rattle.plan.specs.Layout.{Describes, Refuses}
+use Rattle.plan.specs.Refusals.{plan_number, plan_place}
+use Rattle.plan.specs.declared.fault.PlanFault.{PlanFault}
 use Rattle.plan.specs.declared.shape.Plan.{Plan}
 use Rattle.book.specs.Meaning.{Meaning}
 use Rattle.book.specs.Told.{told}
-use Rattle.marks.specs.Marking.{fresh}
-use Rattle.marks.specs.declared.tally.State.{State}
-use Rattle.marks.specs.declared.tally.State.TheVariants.{NoCut, Open, Parted}
-use Rattle.marks.specs.declared.tally.Tally.{Tally}
-use Rattle.call_faults.specs.Refusals.{line_number, line_place}
-use Rattle.lines.specs.Calls.{LineJudgement, line_judged, tally_after}
-use Rattle.text.specs.Lines.{lines_of}
-use Rattle.lines.specs.declared.call.Report.{Report}
-use Rattle.lines.specs.declared.call.Report.TheVariants.{RoughCut, Stands}
+use Rattle.working.specs.Marking.{fresh}
+use Rattle.working.specs.declared.tally.State.{State}
+use Rattle.working.specs.declared.tally.State.TheVariants.{NoCut, Open, Parted}
+use Rattle.working.specs.declared.tally.Tally.{Tally}
+use Rattle.lines.specs.Calls.{LineJudgement, line_judged, line_number, line_place, tally_after}
+use Rattle.lines.specs.Lines.{lines_of}
 
 abbrev pub refusal_line : ℕ → ℕ → ℕ → List ℕ
 refusal_line n a b = codes "no " ++ (decimal n ++ (codes " " ++ (decimal a ++ (codes " " ++ (decimal b ++ codes "\n")))))
@@ -34,15 +30,11 @@ state_line Open k = left_line k
 state_line NoCut k = codes "none\n"
 state_line Parted k = left_line k
 
-abbrev pub rough_line : ℕ → ℕ → List ℕ
-rough_line a b = codes "rough " ++ (decimal a ++ (codes " " ++ (decimal b ++ codes "\n")))
-
-abbrev pub report_line : Report → List ℕ
-report_line (Stands s k) = state_line s k
-report_line (RoughCut a b) = rough_line a b
+abbrev pub step_line : Tally → List ℕ
+step_line t = state_line t.state t.left
 
 abbrev pub line_said : ℕ → LineJudgement → List ℕ
-line_said n (Ok d) = report_line d.1
+line_said n (Ok t) = step_line t
 line_said n (Err f) = refusal_line n (line_number f) (line_place f)
 
 unfoldable pub run_said : Meaning → Tally → ℕ → List (List ℕ) → List ℕ

@@ -1,30 +1,55 @@
 // Makes the call that a line asks for.
-ghost use Rattle.lines.specs.Calls.{call_judged, called_judged, line_judged, CallOutcome, LineOutcome};
-ghost use Rattle.lines.specs.Letters.{asked, call_by};
-ghost use Rattle.std.specs.Prelude.{◌≡◌, IfOk};
+ghost use Rattle.std.specs.Prelude.{◌≡◌, ℕ, IfOk};
+ghost use Rattle.lines.specs.Calls.{call_judged, line_judged, step_by, LineJudgement, LineOutcome};
+ghost use Rattle.lines.specs.declared.fault.LineFault.TheVariants.{Working as Held};
+ghost use Rattle.std.specs.Option.{option_map};
+ghost use Rattle.working.specs.Judging.{rule_of};
 
-use crate::call::{Call, Report};
-use crate::letters::call_by;
+use crate::fault::LineFault;
+use crate::numbers::read_numbers;
 use book::RoadBook;
-use call_faults::{LineFault, WorkingFault};
 use std::alloc::{AllocError, Global};
-use text::read_numbers;
-use working::Working;
+use working::{Step, Working, WorkingFault};
 
-// Makes the call. A refused call changes nothing.
-fn make<B: RoadBook>(working: &mut Working<'_, B>, call: Call) -> Result<Report, WorkingFault>
-    ensures outcome { CallOutcome (call_judged (B.RoadBook.meaning working.old.book.now) working.old.tally (asked call.entry)) working.old.tally result working.new.tally }
-    ensures keeps { working.new.book ≡ working.old.book }
+impl From<WorkingFault> for LineFault {
+    ghost from_gives = { λ e r. r ≡ Held e };
+
+    fn from(e: WorkingFault) -> LineFault {
+        LineFault::Working(e)
+    }
+}
+
+// The step that a letter and its numbers ask for.
+fn step_by<'a>(letter: u8, numbers: &'a [u16]) -> Option<Step<'a>>
+    ensures { option_map rule_of result ≡ step_by letter numbers.now }
 {
-    match call {
-        Call::Step(step) => {
-            working.step(step)?;
-            Ok(Report::Stands(working.state(), working.left()))
-        }
-        Call::Rough => {
-            let (links, apart) = working.rough(&mut [0; 256], &mut [0; 256])?;
-            Ok(Report::RoughCut(links, apart))
-        }
+    match letter as char {
+        'i' => match numbers {
+            [link] => Some(Step::IdleLink(*link)),
+            _ => None,
+        },
+        'e' => match numbers {
+            [link, by] => Some(Step::DominatedLink(*link, *by)),
+            _ => None,
+        },
+        'u' => match numbers {
+            [link, pair] => Some(Step::UnitRoad(*link, *pair)),
+            _ => None,
+        },
+        'p' => match numbers {
+            [inner, outer] => Some(Step::DominatedPair(*inner, *outer)),
+            _ => None,
+        },
+        'f' => match numbers {
+            [pair, pairs @ ..] => Some(Step::CommonFactor(*pair, pairs)),
+            _ => None,
+        },
+        'o' => match numbers {
+            [link, pairs @ ..] => Some(Step::OverloadedLink(*link, pairs)),
+            _ => None,
+        },
+        'n' => Some(Step::DisjointPairs(numbers)),
+        _ => None,
     }
 }
 
@@ -33,14 +58,15 @@ fn call<B: RoadBook>(
     line: usize,
     letter: u8,
     numbers: &[u16],
-) -> Result<Report, LineFault>
-    ensures outcome { LineOutcome (called_judged (B.RoadBook.meaning working.old.book.now) working.old.tally line (call_by letter numbers.now)) working.old.tally result working.new.tally }
+) -> Result<(), LineFault>
+    ensures outcome { LineOutcome (call_judged (B.RoadBook.meaning working.old.book.now) working.old.tally line (step_by letter numbers.now)) working.old.tally result working.new.tally }
     ensures keeps { working.new.book ≡ working.old.book }
 {
-    let Some(call) = call_by(letter, numbers) else {
+    let Some(step) = step_by(letter, numbers) else {
         return Err(LineFault::NotALine(line));
     };
-    Ok(make(working, call)?)
+    working.step(step)?;
+    Ok(())
 }
 
 // Runs a line. The inner result is the line's own: a refused line changes nothing.
@@ -49,7 +75,7 @@ pub(crate) fn run_line<B: RoadBook>(
     working: &mut Working<'_, B>,
     line: usize,
     bytes: &[u8],
-) -> Result<Result<Report, LineFault>, AllocError>
+) -> Result<Result<(), LineFault>, AllocError>
     ensures outcome { IfOk result (λ s. LineOutcome (line_judged (B.RoadBook.meaning working.old.book.now) working.old.tally line bytes.now) working.old.tally s working.new.tally) }
     ensures keeps { working.new.book ≡ working.old.book }
 {

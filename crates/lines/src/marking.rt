@@ -1,17 +1,15 @@
 // The whole program as one call: the bytes of the plan's file and of the input in, the printed bytes out.
+ghost use Rattle.std.specs.Prelude.{◌≡◌, ℕ, ◌++◌, IfOk, string_bytes};
 ghost use Rattle.lines.specs.Calls.{line_judged, tally_after};
-ghost use Rattle.text.specs.Lines.{lines_of};
+ghost use Rattle.lines.specs.Lines.{lines_of};
 ghost use Rattle.lines.specs.Printed.{line_said, run_said, Prints};
-ghost use Rattle.std.specs.Prelude.{◌≡◌, IfOk, string_bytes};
 
 use crate::calls::run_line;
-use crate::printing::{refusal_line, report_line};
-use book::RoadBook;
+use crate::line_reader::LineReader;
+use crate::printing::{refusal_line, step_line};
+use book::{RoadBook, Sheet};
 use plan::Plan;
-use reading::read;
-use sheet::Sheet;
 use std::alloc::{AllocError, Global};
-use text::LineReader;
 use working::Working;
 
 // Runs a line and says what took place.
@@ -25,7 +23,7 @@ fn mark_line<B: RoadBook>(
     ensures keeps { working.new.book ≡ working.old.book }
 {
     match run_line(heap, working, line, bytes)? {
-        Ok(report) => report_line(heap, report),
+        Ok(()) => step_line(heap, working.state(), working.left()),
         Err(fault) => refusal_line(heap, line, fault.number(), fault.place()),
     }
 }
@@ -53,7 +51,7 @@ pub fn mark(heap: Global, file: &[u8], input: &[u8]) -> Result<String, AllocErro
     ensures { IfOk result (λ s. Prints file.now input.now (string_bytes s)) }
 {
     let mut plan = Plan::fresh();
-    if let Err(fault) = read(&mut plan, file) {
+    if let Err(fault) = plan.read(file) {
         return refusal_line(heap, 0, fault.number(), fault.place());
     }
     let sheet = Sheet::new(&plan);

@@ -1,8 +1,7 @@
 // The lines that the program prints.
-ghost use Rattle.lines.specs.Printed.{left_line, refusal_line, report_line, rough_line, state_line};
+ghost use Rattle.lines.specs.Printed.{left_line, refusal_line, state_line};
 ghost use Rattle.std.specs.Prelude.{◌≡◌, IfOk, string_bytes};
 
-use crate::call::Report;
 use std::alloc::{AllocError, Global};
 use working::State;
 
@@ -25,28 +24,11 @@ fn left_line(heap: Global, left: u8) -> Result<String, AllocError>
 }
 
 // What is left after a step, or `none`.
-fn state_line(heap: Global, state: State, left: u8) -> Result<String, AllocError>
+pub(crate) fn step_line(heap: Global, state: State, left: u8) -> Result<String, AllocError>
     ensures { IfOk result (λ s. string_bytes s ≡ state_line state left) }
 {
     match state {
         State::Open | State::Parted => left_line(heap, left),
         State::NoCut => String::from_str(heap, "none\n"),
-    }
-}
-
-// `rough`, how many links the rough cut has, and how many pairs are apart.
-fn rough_line(heap: Global, links: usize, apart: usize) -> Result<String, AllocError>
-    ensures { IfOk result (λ s. string_bytes s ≡ rough_line links apart) }
-{
-    format!(in heap; "rough {links} {apart}\n")
-}
-
-// What took place.
-pub(crate) fn report_line(heap: Global, report: Report) -> Result<String, AllocError>
-    ensures { IfOk result (λ s. string_bytes s ≡ report_line report) }
-{
-    match report {
-        Report::Stands(state, left) => state_line(heap, state, left),
-        Report::RoughCut(links, apart) => rough_line(heap, links, apart),
     }
 }

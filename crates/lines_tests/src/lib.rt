@@ -3,16 +3,13 @@
 
 #[cfg(test)]
 mod tests {
-    use book::RoadBook;
+    use book::{RoadBook, Sheet};
     use lines::mark;
     use plan::Plan;
-    use reading::read;
-    use sheet::Sheet;
     use std::alloc::Global;
     use std::process::Abort;
     use std::test::Fail;
-    use steps::Step;
-    use working::Working;
+    use working::{Step, Working};
 
     // seven terms; broader terms 0, 0, 1, 1, 2, 2; pairs (3,4), (4,5), (5,6), (1,3); budget 2
     const SAMPLE: &[u8] = &[0x03, 0x81, 0x00, 0x80, 0x25, 0x27, 0x25, 0xB8, 0xB0];
@@ -98,26 +95,6 @@ mod tests {
         )
     }
 
-    // The letter r before and after steps, in every state, and with a number that it does not take.
-    #[test]
-    fn rough_cuts(rt: HostRuntime) -> Result<(), Fail> {
-        prints(
-            &rt,
-            rt.alloc(),
-            &[
-                (SAMPLE, b"r", "rough 4 2\n"),
-                (SAMPLE, b"r 1\nr ", "no 1 16 1\nno 2 16 2\n"),
-                (
-                    SAMPLE,
-                    b"r\nu 3 3\nr\ne 1 2\ne 2 4\ne 4 5\nr\nu 5 1\nr",
-                    "rough 4 2\nleft 1\nrough 2 1\nleft 1\nleft 1\nleft 1\nrough 2 1\nleft 0\nrough 0 0\n",
-                ),
-                (TIGHT, b"n 2 3\nr\ni 1", "none\nrough 4 2\nno 3 6 0\n"),
-                (&[0x00, 0x80, 0x00, 0x00], b"r", "rough 0 0\n"),
-            ],
-        )
-    }
-
     // One line for each way in which each step is refused.
     #[test]
     fn refused_steps(rt: HostRuntime) -> Result<(), Fail> {
@@ -182,7 +159,7 @@ mod tests {
     #[test]
     fn trial_over_a_rest(rt: HostRuntime) {
         let mut plan = Plan::fresh();
-        assert!(rt; read(&mut plan, SAMPLE).is_ok());
+        assert!(rt; plan.read(SAMPLE).is_ok());
         let sheet = Sheet::new(&plan);
         let mut working = Working::lay(&sheet, 2);
         assert!(rt; working.step(unit_road(3, 3)).is_ok());

@@ -9,12 +9,12 @@
 --     Describes bs p                 the bytes pass every check and say what p holds
 --     Refuses bs f                   the first check that fails is the one that f names, at f's place
 use Rattle.std.specs.Prelude.{◌≡◌, ℕ, zero, suc, ◌+◌, ◌-◌, ◌*◌, ◌^◌, ◌<◌, ◌≤◌, cond, ◌⊎◌, List, length, nat_le}
-use Rattle.faults.specs.declared.fault.BitsFault.TheVariants.{EndsEarly, Surplus, BufferTooSmall}
-use Rattle.faults.specs.declared.fault.PlanFault.{PlanFault}
-use Rattle.faults.specs.declared.fault.PlanFault.TheVariants.{Bits, TermCount, PairCount, BroaderTerm, PairTerms}
 use Rattle.plan.specs.Bits.{field_at, whole_bytes, Filled, Surplus as SurplusFrom}
 use Rattle.plan.specs.Plans.{broader_of, ends_of}
 use Rattle.plan.specs.Shape.{Counted, Ordered}
+use Rattle.plan.specs.declared.fault.BitsFault.TheVariants.{EndsEarly, Surplus, BufferTooSmall}
+use Rattle.plan.specs.declared.fault.PlanFault.{PlanFault}
+use Rattle.plan.specs.declared.fault.PlanFault.TheVariants.{Bits, TermCount, PairCount, BroaderTerm, PairTerms}
 use Rattle.plan.specs.declared.shape.Plan.{Plan}
 
 -- the least w, from the one given and at most `more` above it, with n ≤ 2 ^ w

@@ -1,4 +1,12 @@
 pub mod Bits
 pub mod Layout
+pub mod Packed
 pub mod Plans
+pub mod Promises
+pub mod Refusals
+pub mod Samples
 pub mod Shape
+pub mod Tree
+pub mod Turning
+pub mod Walks
+pub mod Writes

@@ -1,5 +1,6 @@
-// The fresh plan.
-ghost use Rattle.plan.specs.Plans.{IsFresh};
+// The fresh plan, and what a plan answers of itself.
+ghost use Rattle.std.specs.Prelude.{◌≡◌, ℕ, ◌<◌, MatchOption};
+ghost use Rattle.plan.specs.Plans.{IsFresh, broader_of, ends_of};
 
 use crate::shape::Plan;
 

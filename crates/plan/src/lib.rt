@@ -1,11 +1,19 @@
-// Plans: a tree of terms, the pairs of terms to separate, and a budget; and where each of its numbers stands in a packed file.
+// Plans: a tree of terms, the pairs of terms to separate, and a budget; read from packed files and packed again.
 #![tactic(auto)]
 
-mod accessors;
-mod field_width;
+mod bit_writer;
+mod bits;
+mod fault;
 mod fresh;
+mod packing;
+mod promises;
+mod reading;
+mod refusals;
 mod shape;
+mod tree;
 
-pub use faults::{BitsFault, PlanFault};
-pub use field_width::{bits_for, width_for};
+pub use fault::{BitsFault, PlanFault};
+pub use promises::{
+    each_file_is_one, packed_reads_back, read_is_packed, roads_separate, roads_turn, samples_pack,
+};
 pub use shape::Plan;

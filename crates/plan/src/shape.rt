@@ -1,4 +1,5 @@
 // What a plan holds, and what holds of every plan.
+ghost use Rattle.std.specs.Prelude.{ℕ, ◌<◌, ◌≤◌};
 ghost use Rattle.plan.specs.Shape.{Counted, Paired, Rooted, Stored, Unpaired};
 
 // A tree of terms, the pairs of terms to separate, and a budget: an instance of Multicut in Trees.
@@ -7,15 +8,15 @@ ghost use Rattle.plan.specs.Shape.{Counted, Paired, Rooted, Stored, Unpaired};
 #[derive(Clone, Copy)]
 pub struct Plan {
     // how many terms, 1 to 256
-    pub terms: u16,
+    pub(crate) terms: u16,
     // how many pairs, 0 to 256
-    pub pairs: u16,
+    pub(crate) pairs: u16,
     // how many links may be cut
-    pub budget: u8,
+    pub(crate) budget: u8,
     // the broader term of each term but 0
-    pub broader: [u8; 256],
+    pub(crate) broader: [u8; 256],
     // the two terms of each pair, the smaller first
-    pub ends: [(u8, u8); 256],
+    pub(crate) ends: [(u8, u8); 256],
     ghost counted: { Counted terms pairs },
     ghost rooted: { Rooted terms broader },
     ghost paired: { Paired terms pairs ends },

@@ -1,11 +1,10 @@
 // Damaged files, each with its refusal. The nine bytes of the sample plan are 03 81 00 80 25 27 25 B8 B0.
 use plan::Plan;
-use reading::read;
 use std::process::Abort;
 
 fn refused(rt: &impl Abort, damage: &str, bytes: &[u8], number: u8, place: usize) {
     let mut plan = Plan::fresh();
-    match read(&mut plan, bytes) {
+    match plan.read(bytes) {
         Ok(()) => assert!(rt; false, "a damaged file was read: {damage}"),
         Err(fault) => {
             assert_eq!(rt; fault.number(), number, "{damage}");

@@ -1,7 +1,5 @@
 // All plans of up to four terms and two pairs: each is read from bytes made by hand and packed as the same bytes.
-use packing::pack;
 use plan::Plan;
-use reading::read;
 use std::process::Abort;
 use std::test::Fail;
 
@@ -11,11 +9,11 @@ fn packs_alike(rt: &impl Abort, file: u64, bits: usize) -> Result<bool, Fail> {
     let len = bits.div_ceil(8);
     let bytes = (file << (64 - bits)).to_be_bytes();
     let mut plan = Plan::fresh();
-    match read(&mut plan, &bytes[0..len]) {
+    match plan.read(&bytes[0..len]) {
         Err(_) => Ok(false),
         Ok(()) => {
             let mut out = [0xAA; 8];
-            let Ok(written) = pack(&plan, &mut out) else {
+            let Ok(written) = plan.pack(&mut out) else {
                 return Err(Fail::new("too small a buffer"));
             };
             assert_eq!(rt; written, len);

@@ -6,7 +6,7 @@
 use Rattle.std.proofs.Common.{◌≡◌, ℕ, zero, suc, ◌-◌, ◌&&◌, ltb, [], ◌∷◌, get_or, sym, refl, ap, ◌∙◌, subst, arith}
 use mathlib.Core.Path.{fun_ext}
 use Rattle.plan.specs.Plans.{broader_of, ends_of}
-use Rattle.tree.specs.Tree.{leg, rank, way, way_within}
+use Rattle.plan.specs.Tree.{leg, rank, way, way_within}
 use Rattle.plan.specs.declared.shape.Plan.{Plan}
 use Rattle.book.specs.Meaning.{Meaning}
 use Rattle.book.specs.Told.{told}

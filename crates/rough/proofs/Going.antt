@@ -14,7 +14,7 @@ use Rattle.cuts.specs.Rules.{Never, Pairwise, Share}
 use Rattle.cuts.specs.Search.{meets}
 use Rattle.cuts.proofs.Counting.{count_empty, count_union}
 use Rattle.cuts.proofs.Searching.{meets_decided}
-use Rattle.tree.specs.Tree.{among}
+use Rattle.plan.specs.Tree.{among}
 use Rattle.book.specs.Meaning.{Lawful, Meaning, rank_at}
 use Rattle.book.specs.Posed.{lawful_sound, posed}
 use Rattle.rough.proofs.Pairs.{pairwise_push}

@@ -13,7 +13,7 @@ use Rattle.rough.proofs.Ordered.{one_order}
 use Rattle.rough.specs.Outcome.{Counts, empty_road, fitted, laid, lowest}
 use Rattle.rough.specs.Promise.{Promised, RoughCut}
 use Rattle.rough.specs.Run.{apart_of, links_of}
-use Rattle.call_faults.specs.declared.fault.RoughFault.TheVariants.{EmptyRoad, LinksBuffer, PairsBuffer}
+use Rattle.rough.specs.declared.fault.RoughFault.TheVariants.{EmptyRoad, LinksBuffer, PairsBuffer}
 
 pub no_empty : (m : Meaning) → Lawful m → lowest (empty_road m) m.pairs ≡ None → (p : ℕ) → Open (posed m) p → empty_road m p ≡ false
 no_empty m law e p o = lowest_none (empty_road m) m.pairs e p (law.opened_in p o)

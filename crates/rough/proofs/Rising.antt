@@ -13,7 +13,7 @@ use Rattle.std.proofs.lemmas.List.{length_push}
 use Rattle.std.proofs.lemmas.Bool.{cases_Bool, cases_eq, cond_both, cond-false, cond-true, eq-eqb, or_cases, or_left, or_right}
 use Rattle.cuts.specs.Links.{Links, count}
 use Rattle.cuts.specs.Rules.{Pairwise}
-use Rattle.tree.specs.Tree.{among}
+use Rattle.plan.specs.Tree.{among}
 use Rattle.rough.proofs.Pairs.{pairwise_push}
 use Rattle.rough.specs.Run.{rising}
 

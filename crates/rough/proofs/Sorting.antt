@@ -12,7 +12,7 @@ use Rattle.std.proofs.lemmas.Bool.{and_left, both_ways, cases_Bool, cases_eq, co
 use Rattle.cuts.specs.Links.{less}
 use Rattle.cuts.specs.Rules.{Pairwise}
 use Rattle.cuts.proofs.Counting.{less_from, less_in, less_other}
-use Rattle.tree.specs.Tree.{among}
+use Rattle.plan.specs.Tree.{among}
 use Rattle.rough.proofs.Pairs.{all_both}
 use Rattle.rough.specs.Order.{first_of, insert, nearer, sorted}
 

@@ -15,8 +15,8 @@ use Rattle.cuts.specs.Instances.{Live, Met, On, Open, size}
 use Rattle.cuts.specs.Links.{In, Links, count, union}
 use Rattle.cuts.specs.Rules.{Never, Share}
 use Rattle.cuts.proofs.Counting.{count_empty, count_one, count_union}
-use Rattle.tree.specs.Tree.{among}
-use Rattle.tree.proofs.Members.{among_at, at_among, none_of_nil}
+use Rattle.plan.specs.Tree.{among}
+use Rattle.plan.proofs.Members.{among_at, at_among, none_of_nil}
 use Rattle.book.specs.Meaning.{Lawful, Meaning, leg_of, rank_at}
 use Rattle.book.specs.Posed.{posed}
 use Rattle.book.specs.declared.leg.Leg.{Leg}

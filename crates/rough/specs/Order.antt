@@ -10,7 +10,7 @@ use Rattle.std.specs.Prelude.{◌≡◌, ℕ, zero, suc, ◌<◌, Bool, true, co
 use Rattle.std.specs.List.{AllByRecursion as All}
 use Rattle.cuts.specs.Instances.{Open}
 use Rattle.cuts.specs.Rules.{Pairwise}
-use Rattle.tree.specs.Tree.{among}
+use Rattle.plan.specs.Tree.{among}
 use Rattle.book.specs.Meaning.{Meaning, rank_at}
 use Rattle.book.specs.Posed.{posed}
 

@@ -12,13 +12,13 @@ use Rattle.std.specs.List.{AllByRecursion as All}
 use Rattle.cuts.specs.Instances.{Cut, On, Open, size}
 use Rattle.cuts.specs.Links.{Links}
 use Rattle.cuts.specs.Rules.{Never, Pairwise, Share}
-use Rattle.tree.specs.Tree.{among}
+use Rattle.plan.specs.Tree.{among}
 use Rattle.book.specs.Meaning.{Meaning}
 use Rattle.book.specs.Posed.{posed}
 use Rattle.rough.specs.Order.{InOrder, in_order}
 use Rattle.rough.specs.Outcome.{Counts}
-use Rattle.call_faults.specs.declared.fault.RoughFault.{RoughFault}
-use Rattle.call_faults.specs.declared.fault.RoughFault.TheVariants.{EmptyRoad, LinksBuffer, PairsBuffer}
+use Rattle.rough.specs.declared.fault.RoughFault.{RoughFault}
+use Rattle.rough.specs.declared.fault.RoughFault.TheVariants.{EmptyRoad, LinksBuffer, PairsBuffer}
 
 abbrev pub listed_in : List ℕ → Links
 listed_in xs l = among l xs

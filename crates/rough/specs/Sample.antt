@@ -13,7 +13,7 @@ use Rattle.book.specs.Told.{told}
 use Rattle.rough.specs.Order.{in_order}
 use Rattle.rough.specs.Outcome.{answer}
 use Rattle.rough.specs.Run.{apart_of, links_of}
-use Rattle.call_faults.specs.declared.fault.RoughFault.TheVariants.{LinksBuffer, PairsBuffer}
+use Rattle.rough.specs.declared.fault.RoughFault.TheVariants.{LinksBuffer, PairsBuffer}
 
 abbrev pub Ends : Plan → ℕ → ℕ → ℕ → Type 0
 Ends p q a b = ((ends_of p q).0 ≡ a) × ((ends_of p q).1 ≡ b)

@@ -2,12 +2,15 @@
 #![tactic(auto)]
 
 mod call;
+mod fault;
 mod listed;
 mod listing;
 mod order;
+mod refusals;
 mod roads;
 mod run;
 mod sample;
 
 pub use call::rough;
+pub use fault::RoughFault;
 pub use sample::sample_counts;

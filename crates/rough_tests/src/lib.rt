@@ -5,10 +5,8 @@
 #[cfg(test)]
 mod tests {
     use book::ClimbingBook;
-    use call_faults::RoughFault;
     use plan::Plan;
-    use reading::read;
-    use rough::{rough, sample_counts};
+    use rough::{RoughFault, rough, sample_counts};
 
     // Seven terms, the broader ones of 1 to 6 being 0 0 1 1 2 2; pairs (3, 4), (4, 5), (5, 6), (1, 3).
     const SAMPLE: [u8; 9] = [3, 129, 0, 128, 37, 39, 37, 184, 176];
@@ -19,7 +17,7 @@ mod tests {
     #[test]
     fn sample_is_cut(rt: HostRuntime) {
         let mut plan = Plan::fresh();
-        assert!(rt; read(&mut plan, &SAMPLE).is_ok());
+        assert!(rt; plan.read(&SAMPLE).is_ok());
         let book = ClimbingBook::new(&plan);
         let mut links = [9; 6];
         let mut apart = [9; 3];
@@ -31,7 +29,7 @@ mod tests {
     #[test]
     fn lower_number_first(rt: HostRuntime) {
         let mut plan = Plan::fresh();
-        assert!(rt; read(&mut plan, &TIED).is_ok());
+        assert!(rt; plan.read(&TIED).is_ok());
         let book = ClimbingBook::new(&plan);
         let mut links = [0; 2];
         let mut apart = [9; 1];
@@ -43,7 +41,7 @@ mod tests {
     #[test]
     fn short_slices_are_refused(rt: HostRuntime) {
         let mut plan = Plan::fresh();
-        assert!(rt; read(&mut plan, &SAMPLE).is_ok());
+        assert!(rt; plan.read(&SAMPLE).is_ok());
         let book = ClimbingBook::new(&plan);
         let mut narrow = [9; 3];
         let mut links = [9; 4];

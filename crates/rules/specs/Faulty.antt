@@ -2,7 +2,7 @@
 --     first_closed f qs       the first that is not open, where f says which are
 --     first_repeat seen qs    the first that repeats one seen in front of it
 use Rattle.std.specs.Prelude.{ℕ, Bool, cond, List, [], ◌∷◌, ◌++◌, Some, None, Option}
-use Rattle.tree.specs.Tree.{among}
+use Rattle.plan.specs.Tree.{among}
 
 abbrev pub first_closed : (ℕ → Bool) → List ℕ → Option ℕ
 first_closed f [] = None

@@ -1,5 +1,5 @@
 // The first of listed pairs that is at fault.
-ghost use Rattle.tree.specs.Tree.{among};
+ghost use Rattle.plan.specs.Tree.{among};
 ghost use Rattle.rules.specs.Faulty.{first_closed, first_repeat};
 ghost use Rattle.std.specs.Prelude.{◌≡◌};
 

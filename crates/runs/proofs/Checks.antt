@@ -1,21 +1,33 @@
--- How the checks of a step are passed.
---     pass, pass_none                   a check that holds, with no refusal behind it
+-- What a judgement has checked.
+--     check_parts, check_none_parts     a judgement that admits has passed its check
 --     closed_all, all_closed            no listed pair is closed exactly when all are open
 --     repeat_all, all_repeat            none repeats another exactly when all are different
-use Rattle.std.proofs.Common.{◌≡◌, ℕ, Bool, true, false, eqb, List, [], ◌∷◌, ◌++◌, Some, None, Option, sym, refl, ap, ◌∙◌, subst, ⊎_elim, arith}
-use Rattle.std.proofs.lemmas.Bool.{and_from, and_parts, both_ways, cases_Bool, cond-false, cond-true, eq-eqb, eqb-true, not_from_false, not_from_true, ne_eqb, or_cases, or_left, or_right}
+use Rattle.std.proofs.Common.{◌≡◌, ℕ, Bool, true, false, not, ◌&&◌, ◌||◌, eqb, List, [], ◌∷◌, ◌++◌, Some, None, Ok, Err, Option, sym, refl, ap, ◌∙◌, subst, ⊎_elim, arith}
+use Rattle.std.proofs.lemmas.Bool.{and_from, and_parts, both_ways, cases_Bool, cond-false, cond-true, eq-eqb, eqb-false, eqb-true, not_from_false, not_from_true, not-true, ne_eqb, or_cases, or_left, or_right}
 use Rattle.cuts.specs.Tests.{all_of, differ, pairwise}
-use Rattle.tree.specs.Tree.{among}
+use Rattle.plan.specs.Tree.{among}
 use Rattle.rules.specs.Faulty.{first_closed, first_repeat}
 use Rattle.rules.proofs.Finds.{among_append}
-use Rattle.steps.specs.Refused.{Refusal, check, check_none}
-use Rattle.call_faults.specs.declared.fault.StepFault.{StepFault}
+use Rattle.working.specs.Judging.{Judgement, check, check_none}
+use Rattle.working.specs.declared.fault.WorkingFault.{WorkingFault}
+use Rattle.working.specs.declared.tally.Tally.{Tally}
 
-pub pass : (b : Bool) (f : StepFault) (o : Refusal) → b ≡ true → o ≡ None → check b f o ≡ None
-pass b f o t e = cond-true b o (Some f) t ∙ e
+err_ok : {f : WorkingFault} {u : Tally} → ◌≡◌ {A = Judgement} (Err f) (Ok u) → ⊥
+err_ok e = let z : ◌≡◌ {A = ℕ} 0 1 = cc in omega arith
 
-pub pass_none : (n : Option ℕ) (f : ℕ → StepFault) (o : Refusal) → n ≡ None → o ≡ None → check_none n f o ≡ None
-pass_none n f o t e = ap (λ x. check_none x f o) t ∙ e
+pub check_parts : (b : Bool) (f : WorkingFault) (r : Judgement) (u : Tally) → check b f r ≡ Ok u → (b ≡ true) × (r ≡ Ok u)
+check_parts true f r u e = (refl, e)
+check_parts false f r u e = absurd (err_ok e)
+
+pub check_none_parts : (o : Option ℕ) (f : ℕ → WorkingFault) (r : Judgement) (u : Tally) → check_none o f r ≡ Ok u → (o ≡ None) × (r ≡ Ok u)
+check_none_parts None f r u e = (refl, e)
+check_none_parts (Some n) f r u e = absurd (err_ok e)
+
+pub check_from : (b : Bool) (f : WorkingFault) (r : Judgement) (u : Tally) → b ≡ true → r ≡ Ok u → check b f r ≡ Ok u
+check_from b f r u t e = cond-true b r (Err f) t ∙ e
+
+pub check_none_from : (o : Option ℕ) (f : ℕ → WorkingFault) (r : Judgement) (u : Tally) → o ≡ None → r ≡ Ok u → check_none o f r ≡ Ok u
+check_none_from o f r u t e = ap (λ x. check_none x f r) t ∙ e
 
 some_none : {n : ℕ} → ◌≡◌ {A = Option ℕ} (Some n) None → ⊥
 some_none e = let z : ◌≡◌ {A = ℕ} 0 1 = cc in omega arith

@@ -5,15 +5,15 @@ use mathlib.Core.Bool.{and-true}
 use Rattle.std.proofs.lemmas.List.{length-set}
 use Rattle.cuts.specs.After.{but_for, every, off_road}
 use Rattle.cuts.specs.After as theory
-use Rattle.cuts.specs.Instances.{Sound}
+use Rattle.cuts.specs.Instances.{Instance, Sound}
 use Rattle.book.specs.Meaning.{Lawful, Meaning}
 use Rattle.book.specs.Posed.{lawful_sound, posed}
 use Rattle.book.proofs.Limits.{live_below, open_below}
-use Rattle.marks.specs.Lawful.{rest_lawful}
-use Rattle.marks.specs.Marking.{cut_link, drop_pair, weld_link}
-use Rattle.marks.specs.Rest.{rest, undropped, unmarked}
-use Rattle.marks.specs.declared.tally.LinkMark.TheVariants.{Cut, Welded}
-use Rattle.marks.specs.declared.tally.Tally.{Tally}
+use Rattle.working.specs.Lawful.{rest_lawful}
+use Rattle.working.specs.Marking.{cut_link, drop_pair, weld_link}
+use Rattle.working.specs.Rest.{rest, undropped, unmarked}
+use Rattle.working.specs.declared.tally.LinkMark.TheVariants.{Cut, Welded}
+use Rattle.working.specs.declared.tally.Tally.{Tally}
 use Rattle.runs.specs.Judged.{Whole}
 use Rattle.runs.proofs.Marks.{dropped_but, dropped_off, length_drops, marked_but, marks_remain}
 

@@ -4,21 +4,21 @@
 --     marked_but       a marked link, and no other, is not live any more
 --     dropped_but      a dropped pair, and no other, is not open any more
 --     dropped_off      a cut drops the pairs whose roads pass the link, and no others
-use Rattle.std.proofs.Common.{◌≡◌, ℕ, zero, suc, ◌<◌, ◌≤◌, Bool, true, false, not, ◌&&◌, ◌≢◌, List, length, get_or, set, sym, refl, ap, ◌∙◌, ⊎_elim, arith}
+use Rattle.std.proofs.Common.{◌≡◌, ℕ, zero, suc, ◌<◌, ◌≤◌, Bool, true, false, not, ◌&&◌, ◌||◌, eqb, ◌≢◌, List, length, get_or, set, sym, refl, ap, ◌∙◌, subst, ⊎_elim, arith}
 use mathlib.Core.Bool.{and-false, and-true}
 use Rattle.std.proofs.lemmas.List.{get_or-set_other, get_or-set_same, length-set}
 use Rattle.std.proofs.lemmas.Bool.{both_ways, cases_Bool, cases_eq, cond-false, cond-true, eq-eqb, ne_eqb}
-use Rattle.cuts.specs.After.{but_for, off_road, remain}
+use Rattle.cuts.specs.After.{but_for, every, off_road, remain}
 use Rattle.cuts.specs.Instances.{Instance, Sound}
 use Rattle.cuts.proofs.Same.{remain_remain, same_instance}
 use Rattle.book.specs.Meaning.{Meaning}
 use Rattle.book.specs.Posed.{posed}
-use Rattle.marks.specs.Lawful.{rest_on}
-use Rattle.marks.specs.Marking.{drop_where}
-use Rattle.marks.specs.Rest.{is_unmarked, rest, undropped, unmarked}
-use Rattle.marks.specs.declared.tally.LinkMark.{LinkMark}
-use Rattle.marks.specs.declared.tally.LinkMark.TheVariants.{Unmarked}
-use Rattle.marks.specs.declared.tally.Tally.{Tally}
+use Rattle.working.specs.Lawful.{rest_on}
+use Rattle.working.specs.Marking.{drop_where}
+use Rattle.working.specs.Rest.{is_unmarked, rest, undropped, unmarked}
+use Rattle.working.specs.declared.tally.LinkMark.{LinkMark}
+use Rattle.working.specs.declared.tally.LinkMark.TheVariants.{Unmarked}
+use Rattle.working.specs.declared.tally.Tally.{Tally}
 
 pub rest_remains : (m : Meaning) (t : Tally) → posed (rest m t) ≡ remain (posed m) (unmarked t) (undropped t)
 rest_remains m t = same_instance (posed (rest m t)) (remain (posed m) (unmarked t) (undropped t)) refl refl (λ l. refl) (λ p. refl) (rest_on m t)

@@ -3,18 +3,18 @@
 --     Report             what a step comes to: a refusal with its number and place; or what is left, which pairs are open
 --                        and whether the working has ended as none
 --     reported k s       the step s on a new working with budget k
---     cases k            some steps and their reports, where k is the plan's budget
---     Holds c            the step of c comes to what c says
-use Rattle.std.specs.Prelude.{◌≡◌, ℕ, List, [], ◌∷◌, Ok, Err, filter, slice_index, slice_index_or}
+--     SampleSteps        some steps and their reports
+use Rattle.std.specs.Prelude.{◌≡◌, ℕ, zero, suc, Bool, true, false, cond, List, [], ◌∷◌, Ok, Err, filter, slice_index, slice_index_or}
+use Rattle.std.specs.List.{AllByRecursion as All}
 use Rattle.cuts.specs.Steps.{Step, disjoint_pairs, dominated_pair, unit_road}
 use Rattle.book.specs.Meaning.{Meaning}
 use Rattle.book.specs.Told.{told_by}
 use Rattle.working.specs.Judging.{Judgement, judged}
-use Rattle.marks.specs.Marking.{fresh}
-use Rattle.call_faults.specs.Refusals.{working_number, working_place}
-use Rattle.marks.specs.Rest.{rest}
-use Rattle.marks.specs.declared.tally.State.{State}
-use Rattle.marks.specs.declared.tally.State.TheVariants.{NoCut, Open, Parted}
+use Rattle.working.specs.Marking.{fresh}
+use Rattle.working.specs.Refusals.{working_number, working_place}
+use Rattle.working.specs.Rest.{rest}
+use Rattle.working.specs.declared.tally.State.{State}
+use Rattle.working.specs.declared.tally.State.TheVariants.{NoCut, Open, Parted}
 
 abbrev sample_broader : ℕ → ℕ
 sample_broader t = slice_index (0 ∷ 0 ∷ 0 ∷ 1 ∷ 1 ∷ 2 ∷ 2 ∷ []) t
@@ -47,16 +47,18 @@ pub record Case : Type 0 where
   pub step : Step
   pub comes_to : Report
 
--- k is the plan's budget; in two cases it is 1
-abbrev pub cases : ℕ → List Case
-cases k =
-    record { budget = k; step = unit_road 3 3; comes_to = goes_on 1 (1 ∷ 2 ∷ []) } ∷
-    record { budget = k; step = unit_road 3 0; comes_to = refused 11 3 } ∷
-    record { budget = k; step = dominated_pair 3 0; comes_to = goes_on 2 (1 ∷ 2 ∷ 3 ∷ []) } ∷
-    record { budget = k; step = dominated_pair 3 3; comes_to = refused 9 3 } ∷
+abbrev pub cases : List Case
+cases =
+    record { budget = 2; step = unit_road 3 3; comes_to = goes_on 1 (1 ∷ 2 ∷ []) } ∷
+    record { budget = 2; step = unit_road 3 0; comes_to = refused 11 3 } ∷
+    record { budget = 2; step = dominated_pair 3 0; comes_to = goes_on 2 (1 ∷ 2 ∷ 3 ∷ []) } ∷
+    record { budget = 2; step = dominated_pair 3 3; comes_to = refused 9 3 } ∷
     record { budget = 1; step = disjoint_pairs (2 ∷ 3 ∷ []); comes_to = ends_none } ∷
     record { budget = 1; step = disjoint_pairs (0 ∷ 3 ∷ []); comes_to = refused 11 0 } ∷
-    record { budget = k; step = disjoint_pairs (2 ∷ 3 ∷ []); comes_to = refused 7 2 } ∷ []
+    record { budget = 2; step = disjoint_pairs (2 ∷ 3 ∷ []); comes_to = refused 7 2 } ∷ []
 
 abbrev pub Holds : Case → Type 0
 Holds c = reported c.budget c.step ≡ c.comes_to
+
+abbrev pub SampleSteps : Type 0
+SampleSteps = All Holds cases

@@ -1,8 +1,6 @@
 // The roads of a sample plan, as each book tells them.
-use book::{ClimbingBook, Leg, RoadBook};
+use book::{ClimbingBook, Leg, RoadBook, Sheet};
 use plan::Plan;
-use reading::read;
-use sheet::Sheet;
 use std::alloc::{AllocError, Global};
 use std::io;
 
@@ -36,7 +34,7 @@ fn tell<B: RoadBook>(rt: &HostRuntime, make: &str, book: &B) -> io::Result<()> {
 
 pub(crate) fn tell_sample(rt: &HostRuntime) -> io::Result<()> {
     let mut plan = Plan::fresh();
-    if read(&mut plan, SAMPLE).is_err() {
+    if plan.read(SAMPLE).is_err() {
         return println!(rt; "sample: no plan");
     }
     tell(rt, "climbing", &ClimbingBook::new(&plan))?;

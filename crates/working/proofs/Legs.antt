@@ -6,17 +6,17 @@
 --     kept_first       an unmarked link is the first that is kept from its place on
 --     kept_next        the links kept behind an unmarked one
 --     kept_past        and those behind a marked one
-use Rattle.std.proofs.Common.{◌≡◌, ℕ, zero, suc, ◌+◌, ◌-◌, Bool, true, false, ◌&&◌, List, [], ◌∷◌, drop, Some, None, filter, sym, refl, ap, ◌∙◌, add-one, arith}
+use Rattle.std.proofs.Common.{◌≡◌, ℕ, zero, suc, ◌+◌, ◌-◌, ◌<◌, ◌≤◌, Bool, true, false, ◌&&◌, List, [], ◌∷◌, drop, Some, None, filter, sym, refl, ap, ◌∙◌, subst, add-one, arith}
 use mathlib.Core.Bool.{and-true}
 use Rattle.std.specs.List.{slice_get}
 use Rattle.std.proofs.lemmas.Bool.{and_parts, cond-true}
-use Rattle.tree.proofs.Members.{none_of_nil}
+use Rattle.plan.proofs.Members.{none_of_nil}
 use Rattle.book.specs.Kept.{keeps, passes_over}
 use Rattle.book.specs.Meaning.{Meaning, leg_of, link_at, on_road}
 use Rattle.book.specs.declared.leg.Leg.{Leg}
-use Rattle.marks.specs.Lawful.{leg_rest, rest_on}
-use Rattle.marks.specs.Rest.{rest, undropped, unmarked}
-use Rattle.marks.specs.declared.tally.Tally.{Tally}
+use Rattle.working.specs.Lawful.{leg_rest, rest_on}
+use Rattle.working.specs.Rest.{rest, undropped, unmarked}
+use Rattle.working.specs.declared.tally.Tally.{Tally}
 
 pub rest_road : (m : Meaning) (t : Tally) (l p : ℕ) (r : Bool) → r ≡ on_road m l p → true ≡ (rest m t).live l → true ≡ (rest m t).opened p → r ≡ on_road (rest m t) l p
 rest_road m t l p r e live open' =

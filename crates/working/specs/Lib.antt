@@ -1,2 +1,5 @@
-pub mod Held
 pub mod Judging
+pub mod Lawful
+pub mod Marking
+pub mod Refusals
+pub mod Rest

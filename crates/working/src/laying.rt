@@ -1,10 +1,10 @@
 // Lays a working, and tells how it stands.
-ghost use Rattle.marks.specs.Marking.{fresh};
+ghost use Rattle.working.specs.Marking.{fresh};
 ghost use Rattle.std.specs.Prelude.{◌≡◌};
 
+use crate::tally::{LinkMark, State, Tally};
 use crate::working::Working;
 use book::RoadBook;
-use marks::{State, Tally};
 
 impl<'a, B: RoadBook> Working<'a, B> {
     // A working over a book: nothing is marked or entered, and all of the budget is left.
@@ -14,7 +14,13 @@ impl<'a, B: RoadBook> Working<'a, B> {
     {
         Working {
             book,
-            tally: Tally::fresh(budget),
+            tally: Tally {
+                links: [LinkMark::Unmarked; 256],
+                dropped: [false; 256],
+                entries: [0; 256],
+                left: budget,
+                state: State::Open,
+            },
         }
     }
 

@@ -1,6 +1,6 @@
 // The rest of a working is a road-book again.
-ghost use Rattle.marks.specs.Rest.{rest};
-ghost use Rattle.marks.specs.Lawful.{rest_lawful};
+ghost use Rattle.working.specs.Rest.{rest};
+ghost use Rattle.working.specs.Lawful.{rest_lawful};
 
 use crate::working::Working;
 use book::{Leg, RoadBook};

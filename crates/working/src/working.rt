@@ -1,9 +1,9 @@
 // A working, and its laying.
 ghost use Rattle.std.specs.Prelude.{◌≡◌, ◌<◌};
-ghost use Rattle.marks.specs.Rest.{unmarked};
+ghost use Rattle.working.specs.Rest.{unmarked};
 
+use crate::tally::{LinkMark, State, Tally};
 use book::RoadBook;
-use marks::{LinkMark, Tally};
 
 #[derive(Drop)]
 pub struct Working<'a, B: RoadBook> {

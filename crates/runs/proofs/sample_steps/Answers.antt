@@ -1,5 +1,5 @@
 use Rattle.std.proofs.Common.{refl}
-use Rattle.tree.specs.Tree.{way, way_within}
+use Rattle.plan.specs.Tree.{way, way_within}
 use Rattle.runs.proofs.sample_steps.Goals as goal
 
 pub returns : goal.returns

@@ -1,5 +1,5 @@
 use Rattle.std.proofs.Common.{◌≡◌, ◌+◌, ◌-◌, ◌≤◌, ◌++◌, length, drop, string_bytes}
-use Rattle.text.specs.Lines.{lines_of}
+use Rattle.lines.specs.Lines.{lines_of}
 use Rattle.lines.specs.Printed.{run_said}
 use Rattle.lines.proofs.marking.mark_lines.Given as goal
 

@@ -1,5 +1,5 @@
 use Rattle.std.proofs.Common.{◌≡◌, drop}
-use Rattle.tree.specs.Tree.{among}
+use Rattle.plan.specs.Tree.{among}
 use Rattle.rules.proofs.faulty.is_among.Given as goal
 
 abbrev pub invariant-loop-other : goal.invariant-loop-other

@@ -1,7 +1,7 @@
 use Rattle.std.proofs.Common.{◌≡◌, ◌-◌, ◌≤◌, drop, filter}
 use Rattle.std.specs.List.{slice_get}
 use Rattle.book.specs.Meaning.{leg_of}
-use Rattle.marks.specs.Rest.{unmarked}
+use Rattle.working.specs.Rest.{unmarked}
 use Rattle.working.proofs.rest.WorkingRoadBook.link_at.Given as goal
 
 abbrev pub invariant-loop-at : goal.invariant-loop-at

@@ -1,3 +1,0 @@
-pub mod Lawful
-pub mod Marking
-pub mod Rest

@@ -1,6 +1,0 @@
-pub mod Digits
-pub mod FieldLists
-mod Fronts
-pub mod Octets
-pub mod PackedBytes
-mod Puts

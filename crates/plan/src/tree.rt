@@ -1,0 +1,109 @@
+// The tree of a plan, asked by following broader terms: depths, ancestors, turning terms.
+ghost use Rattle.std.specs.Prelude.{◌≡◌, ℕ, ◌<◌, ◌≤◌, length};
+ghost use Rattle.plan.specs.Plans.{broader_of, ends_of};
+ghost use Rattle.plan.specs.Tree.{among, rank, way};
+ghost use Rattle.std.specs.List.{slice_get};
+
+use crate::shape::Plan;
+
+impl Plan {
+    // How many terms there are.
+    pub fn terms(&self) -> u16
+        ensures { result ≡ self.now.terms }
+    {
+        self.terms
+    }
+
+    // How many pairs there are.
+    pub fn pairs(&self) -> u16
+        ensures { result ≡ self.now.pairs }
+    {
+        self.pairs
+    }
+
+    // How many links may be cut.
+    pub fn budget(&self) -> u8
+        ensures { result ≡ self.now.budget }
+    {
+        self.budget
+    }
+
+    // The two terms of a pair, the smaller first; 0 and 0 for what is no pair.
+    pub fn ends(&self, pair: u16) -> (u16, u16)
+        ensures { (result.0 ≡ (ends_of self.now pair).0) × (result.1 ≡ (ends_of self.now pair).1) }
+    {
+        if pair >= 256 {
+            return (0, 0);
+        }
+        let (first, second) = self.ends[pair as usize];
+        (u16::from(first), u16::from(second))
+    }
+
+    // The broader term of a term; 0 for term 0 and for what is no term.
+    pub fn broader(&self, term: u16) -> u16
+        ensures value { result ≡ broader_of self.now term }
+        ensures falls { 0 < term → result < term }
+    {
+        if term >= 256 {
+            return 0;
+        }
+        u16::from(self.broader[term as usize])
+    }
+
+    // How many links lead from term 0 down to a term.
+    pub fn depth(&self, term: u16) -> u16
+        ensures value { result ≡ length (way (broader_of self.now) term) }
+        ensures bound { result ≤ term }
+    {
+        let mut t = term;
+        let mut depth = 0;
+        while t != 0 {
+            t = self.broader(t);
+            depth += 1;
+        }
+        depth
+    }
+
+    // Whether a link lies above a term: whether it is on the way from term 0 down to it.
+    pub fn is_above(&self, link: u16, term: u16) -> bool
+        ensures { result ≡ among link (way (broader_of self.now) term) }
+    {
+        let mut higher = term;
+        while higher > link {
+            higher = self.broader(higher);
+        }
+        higher == link && link != 0
+    }
+
+    // The number of links from term 0 down to the turning term of two terms, their lowest common ancestor.
+    pub fn rank(&self, a: u16, b: u16) -> u16
+        ensures { result ≡ rank (broader_of self.now) a b }
+    {
+        let mut s = a;
+        let mut t = b;
+        while s != t {
+            if s < t {
+                t = self.broader(t);
+            } else {
+                s = self.broader(s);
+            }
+        }
+        self.depth(s)
+    }
+
+    // The link at a place of the way from term 0 down to a term.
+    pub fn link_on_way(&self, term: u16, place: u16) -> Option<u16>
+        ensures { result ≡ slice_get (way (broader_of self.now) term) place }
+    {
+        let mut depth = self.depth(term);
+        if place >= depth {
+            return None;
+        }
+        let mut t = term;
+        while depth > place + 1 {
+            t = self.broader(t);
+            depth -= 1;
+        }
+        Some(t)
+    }
+}

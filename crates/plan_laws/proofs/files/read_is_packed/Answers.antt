@@ -1,5 +1,0 @@
-use Rattle.plan_laws.proofs.Reread.{described_packed}
-use Rattle.plan_laws.proofs.files.read_is_packed.Goals as goal
-
-pub returns : goal.returns
-returns c = λ bs p all d. described_packed bs p all d

@@ -1,7 +1,0 @@
-// Reading: a plan from its packed bytes.
-#![tactic(auto)]
-
-mod bits;
-mod reading;
-
-pub use reading::read;

@@ -1,3 +1,0 @@
-pub mod Picks
-pub mod Sides
-pub mod Words

@@ -1,3 +1,0 @@
-pub mod Tree
-pub mod Turning
-pub mod Walks
