@@ -6,8 +6,8 @@ use Rattle.book.proofs.Limits.{rank_low}
 use Rattle.book.proofs.Words.{places_more}
 use Rattle.book.proofs.filling.fill_ranks.Goals as goal
 
-pub overflow-cast-ranks : goal.overflow-cast-ranks
-overflow-cast-ranks c =
+pub overflow_cast-ranks : goal.overflow_cast-ranks
+overflow_cast-ranks c =
     let p = c.args.book.now.plan.now in
     omega (arith, c.rank.ensures, rank_low (told p) (told_lawful p) c.loop-pair.pair)
 

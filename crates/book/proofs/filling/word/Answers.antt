@@ -6,15 +6,15 @@ use Rattle.book.proofs.filling.word.Goals as goal
 pub loop-j-init : goal.loop-j-init
 loop-j-init c = sym (bits_none (table_test c.args.book.now.plan.now c.args.table (c.args.k / 4)) (c.args.k % 4 * 64 + 64))
 
-pub overflow-mul-word : goal.overflow-mul-word
-overflow-mul-word c =
+pub overflow_mul-word : goal.overflow_mul-word
+overflow_mul-word c =
     let f = table_test c.args.book.now.plan.now c.args.table (c.args.k / 4) in
     let from = c.args.k % 4 * 64 in
     let j = c.loop-j.j in
     omega (arith, c.loop-j.invariant, bits_fit f from j c.loop-j-test.true (from + (64 - j)))
 
-pub overflow-add-word : goal.overflow-add-word
-overflow-add-word c =
+pub overflow_add-word : goal.overflow_add-word
+overflow_add-word c =
     let f = table_test c.args.book.now.plan.now c.args.table (c.args.k / 4) in
     let from = c.args.k % 4 * 64 in
     let j = c.loop-j.j in

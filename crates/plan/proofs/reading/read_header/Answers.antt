@@ -2,5 +2,5 @@ use Rattle.std.proofs.Common.{◌^◌, ◌<◌, arith}
 use Rattle.plan.proofs.Fields.{lt_from_field}
 use Rattle.plan.proofs.reading.read_header.Goals as goal
 
-pub overflow-cast-result : goal.overflow-cast-result
-overflow-cast-result c = let h : c.in-ok-budget.budget < 2 ^ 8 = lt_from_field _ _ 8 c.in-ok-budget.ensures.value.0 in omega arith
+pub overflow_cast-result : goal.overflow_cast-result
+overflow_cast-result c = let h : c.in_ok-budget.budget < 2 ^ 8 = lt_from_field _ _ 8 c.in_ok-budget.ensures.value.0 in omega arith

@@ -12,18 +12,18 @@ joined p q = cc
 pub loop-q-init : goal.loop-q-init
 loop-q-init c = (refl, c.requires.place, written_none (ends_in c.args.bits.now.bytes.now c.args.terms) (0, 0) 0, λ p none. absurd (omega arith))
 
-pub returns-in-err-first : goal.returns-in-err-first
-returns-in-err-first c =
-    let h = c.in-err-first.ensures.value.1 in
+pub returns-in_err-first : goal.returns-in_err-first
+returns-in_err-first c =
+    let h = c.in_err-first.ensures.value.1 in
     let i = c.loop-q.invariant in
     let n = c.args.terms in
     let q = c.loop-q.q in
     absurd (omega (arith, h, i.1, ap (λ x. length x.now) i.0, pair_next n q, pair_within n (q + 1) c.args.pairs (omega arith)))
 
-pub returns-in-err-second : goal.returns-in-err-second
-returns-in-err-second c =
-    let f = c.in-ok-first.ensures in
-    let h = c.in-err-second.ensures.value.1 in
+pub returns-in_err-second : goal.returns-in_err-second
+returns-in_err-second c =
+    let f = c.in_ok-first.ensures in
+    let h = c.in_err-second.ensures.value.1 in
     let i = c.loop-q.invariant in
     let n = c.args.terms in
     let q = c.loop-q.q in
@@ -31,18 +31,18 @@ returns-in-err-second c =
 
 pub loop-q-preserved : goal.loop-q-preserved
 loop-q-preserved c =
-    let f = c.in-ok-first.ensures in
-    let s = c.in-ok-second.ensures in
+    let f = c.in_ok-first.ensures in
+    let s = c.in_ok-second.ensures in
     let i = c.loop-q.invariant in
     let bs = c.args.bits.now.bytes.now in
     let n = c.args.terms in
     let q = c.loop-q.q in
-    let w = c.width-for-width.ensures.value in
+    let w = c.width_for-width.ensures.value in
     let bytes = ap (λ x. x.now) i.0 in
-    let a : c.in-ok-first.first ≡ (ends_in bs n q).0 = same_field _ _ _ _ _ _ f.value.0 bytes i.1 w in
+    let a : c.in_ok-first.first ≡ (ends_in bs n q).0 = same_field _ _ _ _ _ _ f.value.0 bytes i.1 w in
     let moved : c.field.new.self.at ≡ pair_place n q + width_for n = omega (arith, f.value.1, i.1) in
-    let b : c.in-ok-second.second ≡ (ends_in bs n q).1 = same_field _ _ _ _ _ _ s.value.0 (ap (λ x. x.now) f.same ∙ bytes) moved w in
-    let o = c.is-pair.ensures.yes c.if-not-is-pair.false in
+    let b : c.in_ok-second.second ≡ (ends_in bs n q).1 = same_field _ _ _ _ _ _ s.value.0 (ap (λ x. x.now) f.same ∙ bytes) moved w in
+    let o = c.is_pair.ensures.yes c.if-not-is_pair.false in
     let fine : Ordered n (ends_in bs n q) = (omega (arith, a, b, o.0), omega (arith, b, o.1)) in (
       s.same ∙ f.same ∙ i.0,
       omega (arith, s.value.1, moved, pair_next n q),

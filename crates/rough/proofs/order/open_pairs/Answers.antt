@@ -9,7 +9,7 @@ loop-pair-preserved g c =
     let xs = c.loop-pair.left in
     let i = c.loop-pair.pair in
     let (long, below) = c.loop-pair.invariant in
-    (length-set xs i c.is-open.result ∙ long, fill_more f false xs i c.is-open.result (omega arith) c.is-open.ensures below)
+    (length-set xs i c.is_open.result ∙ long, fill_more f false xs i c.is_open.result (omega arith) c.is_open.ensures below)
 
 pub returns : goal.returns
 returns g c =

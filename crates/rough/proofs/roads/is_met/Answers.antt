@@ -6,16 +6,16 @@ use Rattle.book.specs.Posed.{posed}
 use Rattle.rough.specs.Arrays.{held}
 use Rattle.rough.proofs.Somewhere.{some_found, some_more}
 use Rattle.rough.proofs.roads.is_met.Goals as goal
-use Rattle.rough.proofs.roads.is_met.Goals.{else-chosen-link-via-else-chosen-link, else-chosen-link-via-then-chosen-link+else-on-road}
+use Rattle.rough.proofs.roads.is_met.Goals.{else-chosen-link-via-else-chosen-link, else-chosen-link-via-then-chosen-link+else-on_road}
 
-pub returns-then-on-road : goal.returns-then-on-road
-returns-then-on-road g c =
+pub returns-then-on_road : goal.returns-then-on_road
+returns-then-on_road g c =
     let m = g.B.RoadBook.meaning c.args.book.now in
     let s = held c.args.chosen.now in
     let p = c.args.pair in
     let l = c.loop-link.link in
     let lt : l < m.highest + 1 = omega (arith, c.highest-link-end.ensures) in
-    sym (some_found (meets_by (posed m) s p) (m.highest + 1) l lt (and_from (s l) (on_road m l p) c.if-chosen-link.true (sym c.if-on-road.ensures)))
+    sym (some_found (meets_by (posed m) s p) (m.highest + 1) l lt (and_from (s l) (on_road m l p) c.if-chosen-link.true (sym c.if-on_road.ensures)))
 
 pub loop-link-preserved : goal.loop-link-preserved
 loop-link-preserved g c =
@@ -25,6 +25,6 @@ loop-link-preserved g c =
     let l = c.loop-link.link in
     some_more (meets_by (posed m) s p) l c.loop-link.invariant (
     elim c.else-chosen-link.branch [
-      | else-chosen-link-via-then-chosen-link+else-on-road w ↦ and_right (s l) (on_road m l p) (sym w.if-on-road.ensures)
+      | else-chosen-link-via-then-chosen-link+else-on_road w ↦ and_right (s l) (on_road m l p) (sym w.if-on_road.ensures)
       | else-chosen-link-via-else-chosen-link w ↦ and_left (s l) (on_road m l p) w.if-chosen-link.false
     ])

@@ -4,8 +4,8 @@ use Rattle.cuts.specs.Tests.{follows}
 use Rattle.book.specs.Posed.{posed}
 use Rattle.rules.proofs.all.is_always_with.Goals as goal
 
-pub returns-then-not-on-road : goal.returns-then-not-on-road
-returns-then-not-on-road g c =
+pub returns-then-not-on_road : goal.returns-then-not-on_road
+returns-then-not-on_road g c =
     let i = posed (g.B.RoadBook.meaning c.args.book.now) in
     let f = follows i c.args.link c.args.other in
     let x = c.loop-pair.pair in

@@ -4,8 +4,8 @@ use Rattle.book.specs.Posed.{posed}
 use Rattle.cuts.proofs.Loops.{all_below_fails, all_below_more}
 use Rattle.rules.proofs.all.is_road_alone.Goals as goal
 
-pub returns-then-on-road : goal.returns-then-on-road
-returns-then-on-road g c =
+pub returns-then-on_road : goal.returns-then-on_road
+returns-then-on_road g c =
     let i = posed (g.B.RoadBook.meaning c.args.book.now) in
     let f = sole_on i c.args.link c.args.pair in
     let x = c.loop-other.other in

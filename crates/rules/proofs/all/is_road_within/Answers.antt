@@ -4,8 +4,8 @@ use Rattle.cuts.specs.Tests.{also_on}
 use Rattle.book.specs.Posed.{posed}
 use Rattle.rules.proofs.all.is_road_within.Goals as goal
 
-pub returns-then-not-on-road : goal.returns-then-not-on-road
-returns-then-not-on-road g c =
+pub returns-then-not-on_road : goal.returns-then-not-on_road
+returns-then-not-on_road g c =
     let i = posed (g.B.RoadBook.meaning c.args.book.now) in
     let f = also_on i c.args.inner c.args.outer in
     let x = c.loop-link.link in

@@ -5,8 +5,8 @@ use Rattle.rules.specs.Sharing.{may_share}
 use Rattle.book.specs.Posed.{posed}
 use Rattle.rules.proofs.listed.two_share_only.Goals as goal
 
-pub returns-then-not-may-share : goal.returns-then-not-may-share
-returns-then-not-may-share g c =
+pub returns-then-not-may_share : goal.returns-then-not-may_share
+returns-then-not-may_share g c =
     let i = posed (g.B.RoadBook.meaning c.args.book.now) in
     let f = shared_is i (may_share i c.args.common) c.args.p c.args.q in
     let x = c.loop-link.link in

@@ -10,7 +10,7 @@ returns-in-First c =
     let q = c.args.pair in
     let k = c.args.place in
     let ends = c.ends-first.ensures in
-    first_told p q _ _ (sym c.if-not-is-open.ensures) ends.0 ends.1 k _ _ _ c.rank.ensures c.saturating-add-at.ensures c.link-on-way.ensures ∙
+    first_told p q _ _ (sym c.if-not-is_open.ensures) ends.0 ends.1 k _ _ _ c.rank.ensures c.saturating_add-at.ensures c.link_on_way.ensures ∙
     ap (λ s. link_at (told p) s q k) (sym c.in-First.is)
 
 pub returns-in-Second : goal.returns-in-Second
@@ -19,5 +19,5 @@ returns-in-Second c =
     let q = c.args.pair in
     let k = c.args.place in
     let ends = c.ends-first.ensures in
-    second_told p q _ _ (sym c.if-not-is-open.ensures) ends.0 ends.1 k _ _ _ c.rank.ensures c.saturating-add-at.ensures c.link-on-way-in-Second.ensures ∙
+    second_told p q _ _ (sym c.if-not-is_open.ensures) ends.0 ends.1 k _ _ _ c.rank.ensures c.saturating_add-at.ensures c.link_on_way-in-Second.ensures ∙
     ap (λ s. link_at (told p) s q k) (sym c.in-Second.is)

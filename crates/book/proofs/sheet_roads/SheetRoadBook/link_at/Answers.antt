@@ -3,7 +3,7 @@ use Rattle.book.specs.Sheets.{leg_test, pick}
 use Rattle.book.proofs.Picks.{pick_end, pick_here, pick_next, pick_past}
 use Rattle.book.proofs.Sides.{leg_picked}
 use Rattle.book.proofs.sheet_roads.SheetRoadBook.link_at.Goals as goal
-use Rattle.book.proofs.sheet_roads.SheetRoadBook.link_at.Goals.{else-is-on-leg, then-is-on-leg+else-passed-place}
+use Rattle.book.proofs.sheet_roads.SheetRoadBook.link_at.Goals.{else-is_on_leg, then-is_on_leg+else-passed-place}
 
 pub returns-then-passed-place : goal.returns-then-passed-place
 returns-then-passed-place c =
@@ -12,8 +12,8 @@ returns-then-passed-place c =
     let l = c.loop-link.link in
     let n = c.args.place - c.loop-link.passed in
     let more : 256 - l ≡ suc (255 - l) = omega arith in
-    sym (pick_here g (255 - l) l n (sym c.if-is-on-leg.ensures) (omega arith)) ∙
-    ap (λ d. pick g d l n) (sym more) ∙ c.loop-link.invariant.1 ∙ leg_picked p c.args.leg c.args.pair c.args.place c.if-not-is-open.ensures
+    sym (pick_here g (255 - l) l n (sym c.if-is_on_leg.ensures) (omega arith)) ∙
+    ap (λ d. pick g d l n) (sym more) ∙ c.loop-link.invariant.1 ∙ leg_picked p c.args.leg c.args.pair c.args.place c.if-not-is_open.ensures
 
 pub loop-link-preserved : goal.loop-link-preserved
 loop-link-preserved c =
@@ -24,17 +24,17 @@ loop-link-preserved c =
     let inv = c.loop-link.invariant in
     let more : 256 - l ≡ suc (255 - l) = omega arith in
     let rest : 256 - (l + 1) ≡ 255 - l = omega arith in
-    elim c.if-is-on-leg.branch [
-      | then-is-on-leg+else-passed-place w ↦ (
+    elim c.if-is_on_leg.branch [
+      | then-is_on_leg+else-passed-place w ↦ (
         omega (arith, inv.0, w.passed-is, w.if-passed-place.false),
-        ap (λ d. pick g d (l + 1) (k - c.if-is-on-leg.passed)) rest ∙
-            sym (pick_next g (255 - l) l n (k - c.if-is-on-leg.passed) (sym w.if-is-on-leg.ensures) (omega (arith, inv.0, w.passed-is, w.if-passed-place.false))) ∙
+        ap (λ d. pick g d (l + 1) (k - c.if-is_on_leg.passed)) rest ∙
+            sym (pick_next g (255 - l) l n (k - c.if-is_on_leg.passed) (sym w.if-is_on_leg.ensures) (omega (arith, inv.0, w.passed-is, w.if-passed-place.false))) ∙
             ap (λ d. pick g d l n) (sym more) ∙ inv.1,
       )
-      | else-is-on-leg w ↦ (
+      | else-is_on_leg w ↦ (
         omega (arith, inv.0, w.passed-is),
-        ap (λ d. pick g d (l + 1) (k - c.if-is-on-leg.passed)) rest ∙ ap (λ i. pick g (255 - l) (l + 1) (k - i)) w.passed-is ∙
-            sym (pick_past g (255 - l) l n (sym w.if-is-on-leg.ensures)) ∙ ap (λ d. pick g d l n) (sym more) ∙ inv.1,
+        ap (λ d. pick g d (l + 1) (k - c.if-is_on_leg.passed)) rest ∙ ap (λ i. pick g (255 - l) (l + 1) (k - i)) w.passed-is ∙
+            sym (pick_past g (255 - l) l n (sym w.if-is_on_leg.ensures)) ∙ ap (λ d. pick g d l n) (sym more) ∙ inv.1,
       )
     ]
 
@@ -45,4 +45,4 @@ returns c =
     let l = c.loop-link.link in
     let n = c.args.place - c.loop-link.passed in
     let none : 256 - l ≡ 0 = omega arith in
-    sym (pick_end g l n) ∙ ap (λ d. pick g d l n) (sym none) ∙ c.loop-link.invariant.1 ∙ leg_picked p c.args.leg c.args.pair c.args.place c.if-not-is-open.ensures
+    sym (pick_end g l n) ∙ ap (λ d. pick g d l n) (sym none) ∙ c.loop-link.invariant.1 ∙ leg_picked p c.args.leg c.args.pair c.args.place c.if-not-is_open.ensures

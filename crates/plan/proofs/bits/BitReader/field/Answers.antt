@@ -5,11 +5,11 @@ use Rattle.plan.proofs.bits.BitReader.field.Goals as goal
 pub loop-i-init : goal.loop-i-init
 loop-i-init c = sym (field_none c.args.self.now.bytes.now c.args.self.now.at)
 
-pub overflow-mul-value : goal.overflow-mul-value
-overflow-mul-value c = omega (arith, field_fits c.args.self.now.bytes.now c.args.self.now.at c.loop-i.i (omega arith))
+pub overflow_mul-value : goal.overflow_mul-value
+overflow_mul-value c = omega (arith, field_fits c.args.self.now.bytes.now c.args.self.now.at c.loop-i.i (omega arith))
 
-pub overflow-add-value : goal.overflow-add-value
-overflow-add-value c =
+pub overflow_add-value : goal.overflow_add-value
+overflow_add-value c =
     let h = field_fits c.args.self.now.bytes.now c.args.self.now.at c.loop-i.i (omega arith) in
     omega (arith, bit_lt c.args.self.now.bytes.now (c.args.self.now.at + c.loop-i.i))
 

@@ -7,5 +7,5 @@ use Rattle.plan.proofs.shape.Plan.packed_len.Goals as goal
 pub returns : goal.returns
 returns c =
     let p = c.args.self.now in
-    let e : c.div-ceil.result ≡ whole_bytes (pair_place p.terms p.pairs) = omega (arith, c.div-ceil.ensures, c.bits-for.ensures.value) in
-    record { bytes = e ∙ sym (packed_length p); bits = e; early = omega (arith, c.bits-for.ensures.value, c.bits-for.ensures.bound) }
+    let e : c.div_ceil.result ≡ whole_bytes (pair_place p.terms p.pairs) = omega (arith, c.div_ceil.ensures, c.bits_for.ensures.value) in
+    record { bytes = e ∙ sym (packed_length p); bits = e; early = omega (arith, c.bits_for.ensures.value, c.bits_for.ensures.bound) }

@@ -18,11 +18,11 @@ field-requires c =
     let inv = c.loop-t.invariant.0 in
     let fs = term_fields w (broader_of p) (t - 1) in
     let long = wrote_length b.bytes.now b.at _ _ (flat_map field_bits fs) inv in
-    let width = c.width-for-width.ensures.value in
+    let width = c.width_for-width.ensures.value in
     let so = length_fields fs ∙ widths_terms w (broader_of p) (t - 1) in
     let low = c.loop-t.auto.t in
     let next = broader_next n t (omega arith) in
-    let end : c.loop-t.bits.at + c.width-for-width.result ≤ broader_place n n = omega (arith, inv.1, so, c.requires.place, next, broader_within n (t + 1) n (omega arith)) in
+    let end : c.loop-t.bits.at + c.width_for-width.result ≤ broader_place n n = omega (arith, inv.1, so, c.requires.place, next, broader_within n (t + 1) n (omega arith)) in
     record {
       narrow = omega arith;
       early = omega arith;
@@ -40,8 +40,8 @@ loop-t-preserved c =
     let t = c.loop-t.t in
     let inv = c.loop-t.invariant in
     let before = flat_map field_bits (term_fields w (broader_of p) (t - 1)) in
-    let more = wrote_more b.bytes.now b.at _ _ before _ _ (number_bits c.width-for-width.result c.broader.result) inv.0 c.field.ensures.wrote in
-    let known = ap (λ k. before ++ number_bits k c.broader.result) c.width-for-width.ensures.value ∙ ap (λ k. before ++ number_bits w k) c.broader.ensures.value in
+    let more = wrote_more b.bytes.now b.at _ _ before _ _ (number_bits c.width_for-width.result c.broader.result) inv.0 c.field.ensures.wrote in
+    let known = ap (λ k. before ++ number_bits k c.broader.result) c.width_for-width.ensures.value ∙ ap (λ k. before ++ number_bits w k) c.broader.ensures.value in
     let low = c.loop-t.auto.t in
     (wrote_same b.bytes.now b.at _ _ _ _ more (known ∙ term_bits_more w (broader_of p) t (omega arith)), c.field.ensures.same ∙ inv.1)
 

@@ -6,6 +6,6 @@ pub cut-requires : goal.cut-requires
 cut-requires g c =
     let b = c.args.self.now.book.now in
     record {
-      link = link_below (g.B.RoadBook.meaning b) (g.B.RoadBook.lawful b) c.args.self.now.tally c.args.link c.if-not-is-live.ensures;
+      link = link_below (g.B.RoadBook.meaning b) (g.B.RoadBook.lawful b) c.args.self.now.tally c.args.link c.if-not-is_live.ensures;
       left = omega arith;
     }
