@@ -15,20 +15,20 @@ loop-bytes-preserved g c =
     let n = c.loop-bytes.line + 1 in
     let l = c.in-Some.bytes.now in
     let next = c.in-Some.ensures in
-    let ran = c.in-ok-mark-line.ensures in
+    let ran = c.in_ok-mark_line.ensures in
     let text : c.loop-bytes.lines.text.now ≡ bs = inv.1 in
     let split : lines_of (drop c.loop-bytes.lines.at bs) ≡ l ∷ lines_of (drop c.next_line.new.self.at bs) =
     subst (λ x. lines_of (drop c.loop-bytes.lines.at x) ≡ l ∷ lines_of (drop c.next_line.new.self.at x)) text next.lines.2 in
     let j = line_judged m t n l in
-    let said : string_bytes c.in-ok-mark-line.field-0 ≡ line_said n j =
-    subst (λ b. string_bytes c.in-ok-mark-line.field-0 ≡ line_said n (line_judged (meant b.now) t n l)) inv.0 ran.said.0 in
-    let left : c.mark-line.new.working.tally ≡ tally_after j t =
-    subst (λ b. c.mark-line.new.working.tally ≡ tally_after (line_judged (meant b.now) t n l) t) inv.0 ran.said.1 in (
+    let said : string_bytes c.in_ok-mark_line.field-0 ≡ line_said n j =
+    subst (λ b. string_bytes c.in_ok-mark_line.field-0 ≡ line_said n (line_judged (meant b.now) t n l)) inv.0 ran.said.0 in
+    let left : c.mark_line.new.working.tally ≡ tally_after j t =
+    subst (λ b. c.mark_line.new.working.tally ≡ tally_after (line_judged (meant b.now) t n l) t) inv.0 ran.said.1 in (
       ran.keeps ∙ inv.0,
       ap (λ x. x.now) next.same ∙ text,
       omega (arith, inv.2, next.lines.0),
-      run_more m t n (string_bytes c.loop-bytes.out) _ _ l (lines_of (drop c.next_line.new.self.at bs)) _ (string_bytes c.push-str.new.self) _
-          inv.3 split said left (c.in-ok-push-str.ensures.bytes ∙ ap (λ x. string_bytes c.loop-bytes.out ++ x) c.as-str.ensures.value),
+      run_more m t n (string_bytes c.loop-bytes.out) _ _ l (lines_of (drop c.next_line.new.self.at bs)) _ (string_bytes c.push_str.new.self) _
+          inv.3 split said left (c.in_ok-push_str.ensures.bytes ∙ ap (λ x. string_bytes c.loop-bytes.out ++ x) c.as_str.ensures.value),
     )
 
 pub returns : goal.returns
@@ -36,4 +36,4 @@ returns g c =
     let inv = c.loop-bytes.invariant in
     let bs = c.args.input.now in
     let m = g.B.RoadBook.meaning c.args.working.now.book.now in
-    run_all m c.loop-bytes.working.tally (c.loop-bytes.line + 1) (string_bytes c.loop-bytes.out) _ bs c.loop-bytes.lines.at inv.3 (subst (λ x. length x ≤ c.loop-bytes.lines.at) inv.1 c.in-default.ensures.lines)
+    run_all m c.loop-bytes.working.tally (c.loop-bytes.line + 1) (string_bytes c.loop-bytes.out) _ bs c.loop-bytes.lines.at inv.3 (subst (λ x. length x ≤ c.loop-bytes.lines.at) inv.1 c.in_default.ensures.lines)
