@@ -5,7 +5,7 @@
 use Rattle.std.proofs.Common.{◌≡◌, ℕ, false, List, [], ◌∷◌, sym, ⊎_elim, arith}
 use Rattle.std.proofs.lemmas.Bool.{cases_Bool}
 use Rattle.std.proofs.lemmas.Bool.Decides.{not_from_Decides}
-use Rattle.std.specs.List.{AllByRecursion as All}
+use Rattle.std.specs.List.{AllByRecursion}
 use Rattle.cuts.proofs.Bound.{apart_bound, pairwise_weaker}
 use Rattle.cuts.proofs.Dropping.{drop_reduces}
 use Rattle.cuts.proofs.Remaining.{but_for_from, on_in, open_from}
@@ -18,7 +18,7 @@ use Rattle.cuts.specs.Rules.{CommonFactor, Differ, OnRoad, Share}
 use Rattle.cuts.specs.Search.{meets}
 
 module _ (i : Instance) (ok : Sound i) where
-  others_met : (r : ℕ) (s : Links) → Cut (drop_pair i r) s → (qs : List ℕ) → All (Open i) qs → All (Differ r) qs → All (Met i s) qs
+  others_met : (r : ℕ) (s : Links) → Cut (drop_pair i r) s → (qs : List ℕ) → AllByRecursion (Open i) qs → AllByRecursion (Differ r) qs → AllByRecursion (Met i s) qs
   others_met r s cut [] _ _ = tt
   others_met r s cut (q ∷ qs) (opened, more) (other, others) =
       let stays = open_from i every (but_for r) q opened (but_for_from r q (λ e. other (sym e))) in

@@ -9,7 +9,7 @@ use Rattle.std.proofs.Common.{◌≡◌, ℕ, ◌+◌, ◌<◌, ◌≤◌, Bool,
 use Rattle.std.proofs.lemmas.Bool.{both_ways, cases_Bool, not_from_false, not-true, or_cases, or_left, or_right}
 use Rattle.std.proofs.lemmas.Bool.Decides.{Decides-and, Decides-below_and, Decides-like}
 use Rattle.std.proofs.ByRecursion.{Decides-by_and}
-use Rattle.std.specs.List.{AllByRecursion as All}
+use Rattle.std.specs.List.{AllByRecursion}
 use Rattle.cuts.specs.Instances.{Instance}
 use Rattle.cuts.specs.Rules.{Pairwise}
 use Rattle.cuts.specs.Tests.{all_below, all_links, all_of, all_pairs, implies, pairwise}
@@ -39,7 +39,7 @@ module _ (i : Instance) (f : ℕ → Bool) (P : ℕ → Type 0) (each : (x : ℕ
       (Decides-below_and f P (all_below f) each refl (λ _. refl) i.pairs)
 
 pub list_decided :
-    (f : ℕ → Bool) (P : ℕ → Type 0) → ((x : ℕ) → Decides (f x) (P x)) → (qs : List ℕ) → Decides (all_of f qs) (All P qs)
+    (f : ℕ → Bool) (P : ℕ → Type 0) → ((x : ℕ) → Decides (f x) (P x)) → (qs : List ℕ) → Decides (all_of f qs) (AllByRecursion P qs)
 list_decided f P each = Decides-by_and f P (all_of f) each refl (λ _ _. refl)
 
 pub pairwise_decided :

@@ -6,7 +6,7 @@
 --     two_pairs      the link 1 is on two roads: one link is needed, and with both pairs dropped none is
 --     side_road      the links 1 and 2 are on two roads, the link 2 alone on a third: 2 parts all, who cuts 1 needs 2 as well
 use Rattle.std.specs.Prelude.{ℕ, ◌-◌, ◌≤◌, List, [], ◌∷◌}
-use Rattle.std.specs.List.{AllByRecursion as All}
+use Rattle.std.specs.List.{AllByRecursion}
 use Rattle.cuts.specs.After.{cut_link, drop_pair, weld_link}
 use Rattle.cuts.specs.Drawn.{drawn}
 use Rattle.cuts.specs.Instances.{Instance, Live, On, Sound, Fewest}
@@ -26,7 +26,7 @@ pub record TwinPairs (i : Instance) (q r : ℕ) : Type 0 where
 pub record LooseLink (i : Instance) (k l : ℕ) (qs : List ℕ) : Type 0 where
   pub live : Live i l
   pub crowd : Crowd i k qs
-  pub through : All (On i l) qs
+  pub through : AllByRecursion (On i l) qs
 
 -- what they claim
 abbrev pub WeldBoth : Type 0

@@ -5,7 +5,7 @@
 --     Runs.., Reductions..    the same of many steps
 --     Fewest.., Search..  the fewest links of a cut
 use Rattle.std.specs.Prelude.{◌≡◌, ℕ, ◌+◌, ◌-◌, ◌≤◌, List, length, Decides}
-use Rattle.std.specs.List.{AllByRecursion as All}
+use Rattle.std.specs.List.{AllByRecursion}
 use Rattle.cuts.specs.After.{cut_link, drop_pair, weld_link}
 use Rattle.cuts.specs.Instances.{Instance, Open, Sound, Met, Cut, HasCut, Fewest, NoEmptyRoad, size}
 use Rattle.cuts.specs.Links.{Links, Outside, none, one, union}
@@ -21,13 +21,13 @@ use Rattle.cuts.specs.Tests.{is_common_factor, is_disjoint_pairs, is_dominated_l
 abbrev pub MetPairsBound : Type 0
 MetPairsBound =
     (i : Instance) → Sound i → (s : Links) (qs : List ℕ) →
-    All (Met i s) qs → Pairwise (Share i (Outside s)) qs → length qs ≤ size i s
+    AllByRecursion (Met i s) qs → Pairwise (Share i (Outside s)) qs → length qs ≤ size i s
 
 -- Open pairs that share no link are at most as many as any cut has links.
 abbrev pub DisjointPairsBound : Type 0
 DisjointPairsBound =
     (i : Instance) → Sound i → (s : Links) → Cut i s → (qs : List ℕ) →
-    All (Open i) qs → Pairwise (Share i Never) qs → length qs ≤ size i s
+    AllByRecursion (Open i) qs → Pairwise (Share i Never) qs → length qs ≤ size i s
 
 -- The seven rules; k is what is left before the step.
 abbrev pub IdleLinkLosesNothing : Type 0

@@ -10,12 +10,12 @@
 --     Share i P p q              a link on the roads of both p and q has the property P
 --     Pairwise R qs              of any two of the list, R holds of the one before and the one behind
 use Rattle.std.specs.Prelude.{◌≡◌, ℕ, ◌+◌, ◌≢◌, List, [], ◌∷◌, length}
-use Rattle.std.specs.List.{AllByRecursion as All}
+use Rattle.std.specs.List.{AllByRecursion}
 use Rattle.cuts.specs.Instances.{Instance, Live, Open, On}
 
 abbrev pub Pairwise : (ℕ → ℕ → Type 0) → List ℕ → Type 0
 Pairwise R [] = Unit {0}
-Pairwise R (q ∷ qs) = All (R q) qs × Pairwise R qs
+Pairwise R (q ∷ qs) = AllByRecursion (R q) qs × Pairwise R qs
 
 abbrev pub Differ : ℕ → ℕ → Type 0
 Differ p q = p ≢ q
@@ -57,19 +57,19 @@ pub record DominatedPair (i : Instance) (q r : ℕ) : Type 0 where
 
 pub record Crowd (i : Instance) (k : ℕ) (qs : List ℕ) : Type 0 where
   pub many : length qs ≡ k + 1
-  pub opened : All (Open i) qs
+  pub opened : AllByRecursion (Open i) qs
   pub different : Pairwise Differ qs
 
 pub record CommonFactor (i : Instance) (k r : ℕ) (qs : List ℕ) : Type 0 where
   pub opened : Open i r
   pub crowd : Crowd i k qs
-  pub others : All (Differ r) qs
+  pub others : AllByRecursion (Differ r) qs
   pub shared : Pairwise (Share i (OnRoad i r)) qs
 
 pub record OverloadedLink (i : Instance) (k l : ℕ) (qs : List ℕ) : Type 0 where
   pub live : Live i l
   pub crowd : Crowd i k qs
-  pub through : All (On i l) qs
+  pub through : AllByRecursion (On i l) qs
   pub shared : Pairwise (Share i (IsLink l)) qs
 
 pub record DisjointPairs (i : Instance) (k : ℕ) (qs : List ℕ) : Type 0 where

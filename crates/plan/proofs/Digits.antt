@@ -4,14 +4,14 @@
 --     bits_binary             each of them is 0 or 1
 --     bits_shift              the first bits of a number are those of what is left when the others are shifted out
 use Rattle.std.proofs.Common.{◌≡◌, ℕ, zero, suc, ◌+◌, ◌-◌, ◌/◌, ◌%◌, ◌^◌, ◌<◌, List, [], ◌∷◌, ◌++◌, length, refl, ap, ◌∙◌, add-one, arith}
-use Rattle.std.specs.List.{AllByRecursion as All}
+use Rattle.std.specs.List.{AllByRecursion}
 use Rattle.std.proofs.lemmas.Nat.{mod_below, shr-shr}
 use Rattle.std.proofs.ByRecursion.{All-push}
 use Rattle.std.proofs.lemmas.List.{length_push}
 use Rattle.plan.specs.Packed.{number_bits}
 
 abbrev pub Binary : List ℕ → Type 0
-Binary bits = All (λ b. b < 2) bits
+Binary bits = AllByRecursion (λ b. b < 2) bits
 
 pub bits_none : (v : ℕ) → number_bits 0 v ≡ []
 unfolding number_bits

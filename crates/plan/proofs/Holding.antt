@@ -7,7 +7,7 @@
 --     terms_hold, hold_terms     for the fields of terms, one by one
 --     ends_hold, hold_ends       for the fields of pairs, one by one
 use Rattle.std.proofs.Common.{◌≡◌, ℕ, zero, suc, ◌+◌, ◌-◌, ◌*◌, ◌/◌, ◌^◌, ◌<◌, ◌≤◌, List, [], ◌∷◌, ◌++◌, map, length, take, drop, sym, refl, ap, ◌∙◌, subst, ⊎_elim, add-zero, zero-add, add-one, arith}
-use Rattle.std.specs.List.{range_with_len, flat_map, AllByRecursion as All}
+use Rattle.std.specs.List.{range_with_len, flat_map, AllByRecursion}
 use Rattle.std.proofs.lemmas.Nat.{div-mul-add, mod-mul-add}
 use Rattle.std.proofs.lemmas.List.FromFn.{length-map-range_with_len, map-range_with_len_more}
 use Rattle.std.proofs.lemmas.List.{drop_at, take_at}
@@ -58,7 +58,7 @@ module _ (bs : List ℕ) where
       ap (λ xs. xs ++ map (bit_at bs) (range_with_len (i + f.0) (widths fs))) (field_bits_lem i f.0 ∙ ap (number_bits f.0) e) ∙
       ap (λ xs. field_bits f ++ xs) (holds_bits (i + f.0) fs h)
 
-  pub bits_hold : (i : ℕ) (fs : List (ℕ × ℕ)) → All Fits fs → map (bit_at bs) (range_with_len i (widths fs)) ≡ flat_map field_bits fs → Holds i fs
+  pub bits_hold : (i : ℕ) (fs : List (ℕ × ℕ)) → AllByRecursion Fits fs → map (bit_at bs) (range_with_len i (widths fs)) ≡ flat_map field_bits fs → Holds i fs
   bits_hold i [] fit e = tt
   bits_hold i (f ∷ fs) (small, fit) e =
       let w = f.0 in

@@ -4,7 +4,7 @@
 --     packed_described   so the packed bytes describe the plan
 --     packed_bytes       and they are bytes
 use Rattle.std.proofs.Common.{◌≡◌, ℕ, zero, suc, ◌+◌, ◌-◌, ◌*◌, ◌^◌, ◌<◌, ◌≤◌, List, [], ◌∷◌, ◌++◌, map, length, sym, refl, ap, ◌∙◌, subst, pow-suc, arith}
-use Rattle.std.specs.List.{range_with_len, AllByRecursion as All}
+use Rattle.std.specs.List.{range_with_len, AllByRecursion}
 use Rattle.std.proofs.lemmas.List.FromFn.{fill_by_all}
 use Rattle.std.proofs.ByRecursion.{All-append, All-from_get_or}
 use Rattle.std.proofs.lemmas.List.{get_or_past}
@@ -22,22 +22,22 @@ use Rattle.plan.proofs.PackedBytes.{packed_length, plan_binary}
 use Rattle.plan.proofs.Saying.{holds_says, Says}
 use Rattle.plan.proofs.Widths.{width_enough}
 
-terms_fit : (w : ℕ) (up : ℕ → ℕ) (j : ℕ) → ((t : ℕ) → 0 < t → t ≤ j → up t < 2 ^ w) → All Fits (term_fields w up j)
+terms_fit : (w : ℕ) (up : ℕ → ℕ) (j : ℕ) → ((t : ℕ) → 0 < t → t ≤ j → up t < 2 ^ w) → AllByRecursion Fits (term_fields w up j)
 terms_fit w up zero each = tt
 terms_fit w up (suc j) each =
     let e : suc j ≡ j + 1 = omega arith in
-    subst (All Fits) (sym (ap (term_fields w up) e ∙ terms_more w up j))
+    subst (AllByRecursion Fits) (sym (ap (term_fields w up) e ∙ terms_more w up j))
     (All-append Fits (term_fields w up j) ((w, up (1 + j)) ∷ []) (terms_fit w up j (λ t pos le. each t pos (omega arith))) (each (1 + j) (omega arith) (omega arith), tt))
 
-ends_fit : (w : ℕ) (ends : ℕ → ℕ × ℕ) (m : ℕ) → ((q : ℕ) → q < m → ((ends q).0 < 2 ^ w) × ((ends q).1 < 2 ^ w)) → All Fits (end_fields w ends m)
+ends_fit : (w : ℕ) (ends : ℕ → ℕ × ℕ) (m : ℕ) → ((q : ℕ) → q < m → ((ends q).0 < 2 ^ w) × ((ends q).1 < 2 ^ w)) → AllByRecursion Fits (end_fields w ends m)
 ends_fit w ends zero each = tt
 ends_fit w ends (suc m) each =
     let e : suc m ≡ m + 1 = omega arith in
     let last = each m (omega arith) in
-    subst (All Fits) (sym (ap (end_fields w ends) e ∙ ends_more w ends m))
+    subst (AllByRecursion Fits) (sym (ap (end_fields w ends) e ∙ ends_more w ends m))
     (All-append Fits (end_fields w ends m) (pair_fields w ends m) (ends_fit w ends m (λ q h. each q (omega arith))) (last.0, (last.1, tt)))
 
-pub plan_fits : (p : Plan) → All Fits (plan_fields p)
+pub plan_fits : (p : Plan) → AllByRecursion Fits (plan_fields p)
 plan_fits p =
     let n = p.terms in
     let w = width_for n in

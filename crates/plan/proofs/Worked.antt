@@ -2,7 +2,7 @@
 --     samples_shown      each has the bytes that are shown
 --     damaged_refused    the damaged file is refused at bit 31
 use Rattle.std.proofs.Common.{◌≡◌, ℕ, ◌<◌, ◌≤◌, List, sym, refl, subst, inl, ⊎_elim, arith}
-use Rattle.std.specs.List.{AllByRecursion as All}
+use Rattle.std.specs.List.{AllByRecursion}
 use Rattle.std.proofs.lemmas.Bool.{cases_eq}
 use Rattle.plan.specs.Bits.{bit_at, field_at, Zeros}
 use Rattle.plan.specs.Layout.{width_for, width_from, Refuses}
@@ -11,7 +11,7 @@ use Rattle.plan.specs.Samples.{damaged, samples, PacksAsShown}
 use Rattle.plan.specs.declared.fault.BitsFault.TheVariants.{Surplus}
 use Rattle.plan.specs.declared.fault.PlanFault.TheVariants.{Bits}
 
-pub samples_shown : All PacksAsShown samples
+pub samples_shown : AllByRecursion PacksAsShown samples
 unfolding bytes_of number_at number_bits width_for width_from
 samples_shown = (refl, (refl, tt))
 

@@ -6,10 +6,10 @@
 --     Filled bs i       behind the first i bits only zero bits fill the last byte, and no byte follows
 --     Surplus bs i j    j is the first place from i on that keeps bs from being filled
 use Rattle.std.specs.Prelude.{◌≡◌, ℕ, zero, suc, ◌+◌, ◌-◌, ◌*◌, ◌/◌, ◌%◌, ◌^◌, ◌<◌, ◌≤◌, ◌⊎◌, List, length, slice_index}
-use Rattle.std.specs.List.{AllByRecursion as All}
+use Rattle.std.specs.List.{AllByRecursion}
 
 abbrev pub Bytes : List ℕ → Type 0
-Bytes bs = All (λ b. b < 256) bs
+Bytes bs = AllByRecursion (λ b. b < 256) bs
 
 abbrev pub bit_at : List ℕ → ℕ → ℕ
 bit_at bs i = slice_index bs (i / 8) / 2 ^ (7 - i % 8) % 2

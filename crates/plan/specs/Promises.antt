@@ -9,7 +9,7 @@
 --                        and the legs lead from it down to the two terms
 use Rattle.std.specs.Prelude.{◌≡◌, ℕ, ◌<◌, Bool, ◌⊎◌, List}
 use Rattle.plan.specs.Bits.{Bytes}
-use Rattle.std.specs.List.{AllByRecursion as All}
+use Rattle.std.specs.List.{AllByRecursion}
 use Rattle.plan.specs.Layout.{Describes, Refuses}
 use Rattle.plan.specs.Packed.{packed}
 use Rattle.plan.specs.Samples.{damaged, samples, PacksAsShown}
@@ -37,7 +37,7 @@ abbrev pub EachFileIsOne : Type 0
 EachFileIsOne = (bs : List ℕ) → ReadsOnce bs
 
 abbrev pub SamplesPack : Type 0
-SamplesPack = All PacksAsShown samples × Refuses damaged (Bits (Surplus 31))
+SamplesPack = AllByRecursion PacksAsShown samples × Refuses damaged (Bits (Surplus 31))
 
 -- the set s meets the road of a and b exactly when it leaves no walk between them
 pub record Separates (p : Plan) (s : ℕ → Bool) (a b : ℕ) : Type 0 where

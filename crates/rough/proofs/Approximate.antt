@@ -1,7 +1,7 @@
 -- The rough cut is a cut of at most twice the fewest links.
 --     rough_cut     of a lawful book with no empty road
 use Rattle.std.proofs.Common.{◌≡◌, ℕ, ◌+◌, ◌*◌, ◌<◌, ◌≤◌, true, false, [], length, sym, subst, ⊎_elim, add-one, arith}
-use Rattle.std.specs.List.{AllByRecursion as All}
+use Rattle.std.specs.List.{AllByRecursion}
 use Rattle.std.proofs.ByRecursion.{All-weaker}
 use Rattle.std.proofs.lemmas.Bool.{cases_Bool, false≢true}
 use Rattle.cuts.specs.Instances.{Cut, Met, Open, size}
@@ -32,7 +32,7 @@ module _ (m : Meaning) (law : Lawful m) (full : (p : ℕ) → Open (posed m) p �
       let ls = links_of m in
       let ps = apart_of m in
       let i = posed m in
-      let opened : All (Open i) ps = All-weaker (Kept m (gone m) []) (Open i) (λ a k. k.opened) ps so.kept in
+      let opened : AllByRecursion (Open i) ps = All-weaker (Kept m (gone m) []) (Open i) (λ a k. k.opened) ps so.kept in
       let least : (t : Links) → Cut i t → length ps ≤ size i t = λ t c. disjoint_bound i (lawful_sound m law) t c ps opened so.apart in
       let zero-out : s 0 ≡ false = ⊎_elim (λ e. let l = (law.live_in 0 (so.inside 0 e)).0 in absurd (omega arith)) (λ e. e) (cases_Bool (s 0)) in
       let many : length ls ≡ count s n = subst (λ k. length (rising s k) ≡ count s n) (sym (add-one n)) (length_rising s zero-out n) in

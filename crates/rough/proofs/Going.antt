@@ -4,7 +4,7 @@
 --     sofar_none         at the beginning
 --     sofar_all          after all pairs, if they come in order and none has an empty road
 use Rattle.std.proofs.Common.{◌≡◌, ℕ, ◌*◌, ◌≤◌, true, false, eqb, ◌⊎◌, List, [], ◌∷◌, length, sym, refl, ap, ◌∙◌, subst, inl, inr, ⊎_elim, arith}
-use Rattle.std.specs.List.{AllByRecursion as All}
+use Rattle.std.specs.List.{AllByRecursion}
 use Rattle.std.proofs.ByRecursion.{All-push, All-weaker}
 use Rattle.std.proofs.lemmas.List.{length_push}
 use Rattle.std.proofs.lemmas.Bool.{both_ways, cases_Bool, cond-false, cond-true, eqb-true, or_cases, or_left, or_right}
@@ -30,12 +30,12 @@ Lower m a q = rank_at m q ≤ rank_at m a
 pub record Kept (m : Meaning) (g : Gone) (ps : List ℕ) (a : ℕ) : Type 0 where
   pub opened : Open (posed m) a
   pub chosen : (x : ℕ) → In (tops m a) x → In g.chosen x
-  pub low : All (Lower m a) ps
+  pub low : AllByRecursion (Lower m a) ps
 
 pub record Sofar (m : Meaning) (g : Gone) (ps : List ℕ) : Type 0 where
   pub inside : (l : ℕ) → In g.chosen l → Live (posed m) l
   pub met : (p : ℕ) → Open (posed m) p → Met (posed m) g.chosen p ⊎ (among p ps ≡ true)
-  pub kept : All (Kept m g ps) g.apart
+  pub kept : AllByRecursion (Kept m g ps) g.apart
   pub apart : Pairwise (Share (posed m) Never) g.apart
   pub few : size (posed m) g.chosen ≤ 2 * length g.apart
 
@@ -64,7 +64,7 @@ module _ (m : Meaning) (law : Lawful m) where
     }
 
     -- it is not, and is written down
-    written : Open (posed m) p → empty_road m p ≡ false → All (Lower m p) ps → (Met (posed m) g.chosen p → ⊥) → Sofar m (written_down m g p) ps
+    written : Open (posed m) p → empty_road m p ≡ false → AllByRecursion (Lower m p) ps → (Met (posed m) g.chosen p → ⊥) → Sofar m (written_down m g p) ps
     written o full low unmet =
         let s = g.chosen in
         let h = written_down m g p in
@@ -73,7 +73,7 @@ module _ (m : Meaning) (law : Lawful m) where
         let tops-in : (x : ℕ) → In (tops m p) x → In h.chosen x = λ x e. ap (λ t. t x) all ∙ or_right (s x) (tops m p x) e in
         let wider : (q : ℕ) → Met (posed m) s q → Met (posed m) h.chosen q = λ q (x, x-in, x-on). (x, more x x-in, x-on) in
         let here : Met (posed m) h.chosen p = let (x, x-in, x-on) = tops_meet m law p o full in (x, tops-in x x-in, x-on) in
-        let others : All (Kept m h ps) g.apart =
+        let others : AllByRecursion (Kept m h ps) g.apart =
         All-weaker (Kept m g (p ∷ ps)) (Kept m h ps) (λ a k. record { opened = k.opened; chosen = λ x e. more x (k.chosen x e); low = k.low.1 }) g.apart so.kept in
         record {
           inside = λ l e. ⊎_elim (so.inside l) (tops_live m law p l o) (or_cases (s l) (tops m p l) (ap (λ t. t l) (sym all) ∙ e));
@@ -87,7 +87,7 @@ module _ (m : Meaning) (law : Lawful m) where
           few = omega (arith, so.few, tops_few m law p o, count_union s (tops m p) m.highest, ap (size (posed m)) all, length_push g.apart p);
         }
 
-    pub sofar_more : Open (posed m) p → empty_road m p ≡ false → All (Lower m p) ps → Sofar m (take_up m g p) ps
+    pub sofar_more : Open (posed m) p → empty_road m p ≡ false → AllByRecursion (Lower m p) ps → Sofar m (take_up m g p) ps
     sofar_more o full low =
         let t = meets (posed m) g.chosen p in
         let decided = meets_decided (posed m) (lawful_sound m law) g.chosen p in
@@ -100,7 +100,7 @@ module _ (m : Meaning) (law : Lawful m) where
   before_lower p q e = ⊎_elim (λ h. omega arith) (λ (h, _). omega arith) e
 
   pub sofar_all :
-      (ps : List ℕ) (g : Gone) → Pairwise (Before m) ps → All (Open (posed m)) ps → ((p : ℕ) → Open (posed m) p → empty_road m p ≡ false) →
+      (ps : List ℕ) (g : Gone) → Pairwise (Before m) ps → AllByRecursion (Open (posed m)) ps → ((p : ℕ) → Open (posed m) p → empty_road m p ≡ false) →
       Sofar m g ps → Sofar m (go_through m g ps) []
   sofar_all [] g order opened full so = so
   sofar_all (p ∷ ps) g (first, rest) (o, os) full so =

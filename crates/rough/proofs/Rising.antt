@@ -7,7 +7,7 @@
 --     rising_skip       and one that it has not
 --     rising_short      below n there are at most n
 use Rattle.std.proofs.Common.{◌≡◌, ℕ, zero, suc, ◌+◌, ◌<◌, ◌≤◌, true, false, eqb, List, [], ◌∷◌, ◌++◌, length, sym, refl, ap, ◌∙◌, subst, ⊎_elim, arith}
-use Rattle.std.specs.List.{AllByRecursion as All}
+use Rattle.std.specs.List.{AllByRecursion}
 use Rattle.std.proofs.ByRecursion.{All-push, All-weaker}
 use Rattle.std.proofs.lemmas.List.{length_push}
 use Rattle.std.proofs.lemmas.Bool.{cases_Bool, cases_eq, cond_both, cond-false, cond-true, eq-eqb, or_cases, or_left, or_right}
@@ -27,12 +27,12 @@ among_last q [] = or_left (eqb q q) false (eq-eqb q q refl)
 among_last q (y ∷ ys) = or_right (eqb q y) (among q (ys ++ (q ∷ []))) (among_last q ys)
 
 module _ (s : Links) where
-  pub all_rising : (n : ℕ) → All (λ x. (x < n) × (s x ≡ true)) (rising s n)
+  pub all_rising : (n : ℕ) → AllByRecursion (λ x. (x < n) × (s x ≡ true)) (rising s n)
   all_rising zero = tt
   all_rising (suc n) =
-      let more : All (λ x. (x < suc n) × (s x ≡ true)) (rising s n) =
+      let more : AllByRecursion (λ x. (x < suc n) × (s x ≡ true)) (rising s n) =
       All-weaker (λ x. (x < n) × (s x ≡ true)) (λ x. (x < suc n) × (s x ≡ true)) (λ x (lt, e). (omega arith, e)) (rising s n) (all_rising n) in
-      cond_both (s n) (rising s n ++ (n ∷ [])) (rising s n) (All (λ x. (x < suc n) × (s x ≡ true)))
+      cond_both (s n) (rising s n ++ (n ∷ [])) (rising s n) (AllByRecursion (λ x. (x < suc n) × (s x ≡ true)))
       (λ e. All-push (λ x. (x < suc n) × (s x ≡ true)) (rising s n) n more (omega arith, e))
       (λ _. more)
 

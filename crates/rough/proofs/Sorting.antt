@@ -6,7 +6,7 @@
 --     sorted_done                 where there is no first, nothing is left
 --     sorted_only                 any list of just these numbers, each before those behind, is the sorted one
 use Rattle.std.proofs.Common.{◌≡◌, ℕ, zero, suc, ◌<◌, ◌≤◌, Bool, true, false, cond, not, ◌||◌, eqb, List, [], ◌∷◌, length, Some, None, sym, refl, ap, ◌∙◌, subst, ⊎_elim, arith}
-use Rattle.std.specs.List.{slice_get, AllByRecursion as All}
+use Rattle.std.specs.List.{slice_get, AllByRecursion}
 use Rattle.std.proofs.ByRecursion.{All-weaker}
 use Rattle.std.proofs.lemmas.Bool.{and_left, both_ways, cases_Bool, cases_eq, cond_both, cond-false, cond-true, eq-eqb, eqb-true, or_cases, or_left, or_right}
 use Rattle.cuts.specs.Links.{less}
@@ -24,7 +24,7 @@ some_first : (xs : List ℕ) (p : ℕ) → slice_get xs 0 ≡ Some p → (ps : L
 some_first [] p e = let z : ◌≡◌ {A = ℕ} 0 1 = cc in absurd (omega arith)
 some_first (x ∷ xs) p e = (xs, let s : x ≡ p = cc in ap (λ y. y ∷ xs) s)
 
-pub all_among : (P : ℕ → Type 0) (q : ℕ) (ys : List ℕ) → All P ys → among q ys ≡ true → P q
+pub all_among : (P : ℕ → Type 0) (q : ℕ) (ys : List ℕ) → AllByRecursion P ys → among q ys ≡ true → P q
 all_among P q [] h e = let z : ◌≡◌ {A = ℕ} 0 1 = cc in absurd (omega arith)
 all_among P q (y ∷ ys) (h, hs) e =
     ⊎_elim (λ is. subst P (sym (eqb-true q y is)) h) (λ t. all_among P q ys hs t) (or_cases (eqb q y) (among q ys) e)
@@ -34,16 +34,16 @@ behind_head : (p : ℕ) (ps : List ℕ) (q : ℕ) → among q (p ∷ ps) ≡ tru
 behind_head p ps q e ne = ⊎_elim (λ s. absurd (ne (eqb-true q p s))) (λ h. h) (or_cases (eqb q p) (among q ps) e)
 
 module _ (b : ℕ → ℕ → Bool) where
-  all_insert : (P : ℕ → Type 0) (x : ℕ) (ys : List ℕ) → P x → All P ys → All P (insert b x ys)
+  all_insert : (P : ℕ → Type 0) (x : ℕ) (ys : List ℕ) → P x → AllByRecursion P ys → AllByRecursion P (insert b x ys)
   all_insert P x [] h hs = (h, tt)
   all_insert P x (y ∷ ys) h (k, ks) =
-      cond_both (b x y) (x ∷ y ∷ ys) (y ∷ insert b x ys) (All P) (λ _. (h, (k, ks))) (λ _. (k, all_insert P x ys h ks))
+      cond_both (b x y) (x ∷ y ∷ ys) (y ∷ insert b x ys) (AllByRecursion P) (λ _. (h, (k, ks))) (λ _. (k, all_insert P x ys h ks))
 
-  pub all_sorted : (P : ℕ → Type 0) (f : ℕ → Bool) (n : ℕ) → ((q : ℕ) → q < n → f q ≡ true → P q) → All P (sorted b f n)
+  pub all_sorted : (P : ℕ → Type 0) (f : ℕ → Bool) (n : ℕ) → ((q : ℕ) → q < n → f q ≡ true → P q) → AllByRecursion P (sorted b f n)
   all_sorted P f zero h = tt
   all_sorted P f (suc n) h =
-      let more : All P (sorted b f n) = all_sorted P f n (λ q lt. h q (omega arith)) in
-      cond_both (f n) (insert b n (sorted b f n)) (sorted b f n) (All P)
+      let more : AllByRecursion P (sorted b f n) = all_sorted P f n (λ q lt. h q (omega arith)) in
+      cond_both (f n) (insert b n (sorted b f n)) (sorted b f n) (AllByRecursion P)
       (λ e. all_insert P n (sorted b f n) (h n (omega arith) e) more)
       (λ _. more)
 
@@ -88,7 +88,7 @@ module _ (b : ℕ → ℕ → Bool) where
       (λ _. more))
       (cases_eq q n)
 
-  head_ahead : (p : ℕ) (ps : List ℕ) → All (λ q. b p q ≡ true) ps → (q : ℕ) → among q (p ∷ ps) ≡ true → (q ≡ p → ⊥) → b p q ≡ true
+  head_ahead : (p : ℕ) (ps : List ℕ) → AllByRecursion (λ q. b p q ≡ true) ps → (q : ℕ) → among q (p ∷ ps) ≡ true → (q ≡ p → ⊥) → b p q ≡ true
   head_ahead p ps h q e ne = all_among (λ x. b p x ≡ true) q ps h (behind_head p ps q e ne)
 
   sorted_same : (f g : ℕ → Bool) (n : ℕ) → ((q : ℕ) → q < n → f q ≡ g q) → sorted b f n ≡ sorted b g n
@@ -98,7 +98,7 @@ module _ (b : ℕ → ℕ → Bool) where
       ap (λ t. cond t (insert b n (sorted b f n)) (sorted b f n)) (h n (omega arith)) ∙
       ap (λ zs. cond (g n) (insert b n zs) zs) more
 
-  insert_front : (x : ℕ) (ys : List ℕ) → All (λ y. b x y ≡ true) ys → insert b x ys ≡ x ∷ ys
+  insert_front : (x : ℕ) (ys : List ℕ) → AllByRecursion (λ y. b x y ≡ true) ys → insert b x ys ≡ x ∷ ys
   insert_front x [] h = refl
   insert_front x (y ∷ ys) (h, _) = cond-true (b x y) (x ∷ y ∷ ys) (y ∷ insert b x ys) h
 
@@ -153,7 +153,7 @@ module _ (b : ℕ → ℕ → Bool) where
         (λ is.
         let here : f n ≡ true = ap f (sym is) ∙ e in
         let gone : g n ≡ false = ap (less f p) (sym is) ∙ less_itself f p in
-        let front : All (λ y. b n y ≡ true) ys =
+        let front : AllByRecursion (λ y. b n y ≡ true) ys =
         all_sorted (λ y. b n y ≡ true) f n (λ q less' e'. subst (λ x. b x q ≡ true) is (h q (omega arith) e' (λ same. omega arith))) in
         let same : ys ≡ zs = sorted_same f g n (λ q less'. sym (less_others f p q (λ s. omega arith))) in
         cond-true (f n) (insert b n ys) ys here ∙ insert_front n ys front ∙ ap (λ x. x ∷ ys) (sym is) ∙ ap (λ xs. p ∷ xs) same ∙
@@ -178,7 +178,7 @@ module _ (b : ℕ → ℕ → Bool) where
       abbrev Ahead : ℕ → ℕ → Type 0
       Ahead p q = b p q ≡ true
 
-      pairwise_insert : (x : ℕ) (ys : List ℕ) → All (λ y. x ≡ y → ⊥) ys → Pairwise Ahead ys → Pairwise Ahead (insert b x ys)
+      pairwise_insert : (x : ℕ) (ys : List ℕ) → AllByRecursion (λ y. x ≡ y → ⊥) ys → Pairwise Ahead ys → Pairwise Ahead (insert b x ys)
       pairwise_insert x [] ne h = (tt, tt)
       pairwise_insert x (y ∷ ys) (ne, nes) (h, hs) =
           cond_both (b x y) (x ∷ y ∷ ys) (y ∷ insert b x ys) (Pairwise Ahead)
@@ -197,18 +197,18 @@ module _ (b : ℕ → ℕ → Bool) where
       sorted_next f n p e =
           let (ps, is) = some_first (sorted b f n) p (sym (first_sorted f n) ∙ e) in
           let P : ℕ → Type 0 = λ q. (q < n) × (f q ≡ true) in
-          let (lt, here) = (subst (All P) is (all_sorted P f n (λ q a c. (a, c)))).0 in
+          let (lt, here) = (subst (AllByRecursion P) is (all_sorted P f n (λ q a c. (a, c)))).0 in
           let ahead = (subst (Pairwise Ahead) is (pairwise_sorted f n)).0 in
           (lt, here, sorted_first f n p lt here (λ q a c ne. head_ahead p ps ahead q (subst (λ xs. among q xs ≡ true) is (among_sorted f n q a c)) ne))
 
       pub sorted_only :
-          (f : ℕ → Bool) (n : ℕ) (ps : List ℕ) → Pairwise Ahead ps → All (λ q. (q < n) × (f q ≡ true)) ps →
+          (f : ℕ → Bool) (n : ℕ) (ps : List ℕ) → Pairwise Ahead ps → AllByRecursion (λ q. (q < n) × (f q ≡ true)) ps →
           ((q : ℕ) → q < n → f q ≡ true → among q ps ≡ true) → ps ≡ sorted b f n
       sorted_only f n [] ahead only every =
           sym (sorted_none f n (λ q lt. ⊎_elim (λ e. let z : ◌≡◌ {A = ℕ} 0 1 = let w = every q lt e in cc in absurd (omega arith)) (λ e. e) (cases_Bool (f q))))
       sorted_only f n (p ∷ ps) (ahead, aheads) ((lt, here), only) every =
           let g = less f p in
           let not_first : (q : ℕ) → Ahead p q → q ≡ p → ⊥ = λ q a s. both_ways (b q p) (never p q a) (subst (λ x. b x p ≡ true) (sym s) (subst (λ x. b p x ≡ true) s a)) in
-          let others : All (λ q. (q < n) × (g q ≡ true)) ps = all_both (λ q. (q < n) × (f q ≡ true)) (Ahead p) (λ q. (q < n) × (g q ≡ true)) (λ q (a, c) k. (a, less_from f p q c (not_first q k))) ps only ahead in
+          let others : AllByRecursion (λ q. (q < n) × (g q ≡ true)) ps = all_both (λ q. (q < n) × (f q ≡ true)) (Ahead p) (λ q. (q < n) × (g q ≡ true)) (λ q (a, c) k. (a, less_from f p q c (not_first q k))) ps only ahead in
           let rest : ps ≡ sorted b g n = sorted_only g n ps aheads others (λ q a c. behind_head p ps q (every q a (less_in f p q c)) (less_other f p q c)) in
           ap (λ xs. p ∷ xs) rest ∙ sym (sorted_first f n p lt here (λ q a c ne. head_ahead p ps ahead q (every q a c) ne))

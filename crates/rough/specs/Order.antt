@@ -7,7 +7,7 @@
 --     sorted b f n      the numbers below n that f has, put in one by one
 --     first_of b f n     the first of them under the order b
 use Rattle.std.specs.Prelude.{◌≡◌, ℕ, zero, suc, ◌<◌, Bool, true, cond, ◌&&◌, ◌||◌, ◌⊎◌, List, [], ◌∷◌, Some, None, Option, ◌==◌, nat_lt}
-use Rattle.std.specs.List.{AllByRecursion as All}
+use Rattle.std.specs.List.{AllByRecursion}
 use Rattle.cuts.specs.Instances.{Open}
 use Rattle.cuts.specs.Rules.{Pairwise}
 use Rattle.plan.specs.Tree.{among}
@@ -19,7 +19,7 @@ Before m p q = (rank_at m q < rank_at m p) ⊎ ((rank_at m p ≡ rank_at m q) ×
 
 pub record InOrder (m : Meaning) (ps : List ℕ) : Type 0 where
   pub each_before : Pairwise (Before m) ps
-  pub only_open : All (Open (posed m)) ps
+  pub only_open : AllByRecursion (Open (posed m)) ps
   pub every_open : (p : ℕ) → Open (posed m) p → among p ps ≡ true
 
 abbrev pub earlier : (ℕ → ℕ) → ℕ → ℕ → Bool

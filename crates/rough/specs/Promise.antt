@@ -8,7 +8,7 @@
 --     LowestEmpty m p       p is the lowest open pair with no link on its road, and so there is no cut at all
 --     Promised m r xs ys    the first where the answer r is no refusal, the second where r refuses an empty road
 use Rattle.std.specs.Prelude.{◌≡◌, ℕ, ◌*◌, ◌<◌, ◌≤◌, List, length, take, Ok, Err}
-use Rattle.std.specs.List.{AllByRecursion as All}
+use Rattle.std.specs.List.{AllByRecursion}
 use Rattle.cuts.specs.Instances.{Cut, On, Open, size}
 use Rattle.cuts.specs.Links.{Links}
 use Rattle.cuts.specs.Rules.{Never, Pairwise, Share}
@@ -26,7 +26,7 @@ listed_in xs l = among l xs
 pub record RoughCut (m : Meaning) (ls ps : List ℕ) : Type 0 where
   pub cut : Cut (posed m) (listed_in ls)
   pub rising : Pairwise ◌<◌ ls
-  pub opened : All (Open (posed m)) ps
+  pub opened : AllByRecursion (Open (posed m)) ps
   pub apart : Pairwise (Share (posed m) Never) ps
   pub at_least : (s : Links) → Cut (posed m) s → length ps ≤ size (posed m) s
   pub twice : length ls ≤ 2 * length ps

@@ -5,7 +5,7 @@
 --     reported k s       the step s on a new working with budget k
 --     SampleSteps        some steps and their reports
 use Rattle.std.specs.Prelude.{◌≡◌, ℕ, zero, suc, Bool, true, false, cond, List, [], ◌∷◌, Ok, Err, filter, slice_index, slice_index_or}
-use Rattle.std.specs.List.{AllByRecursion as All}
+use Rattle.std.specs.List.{AllByRecursion}
 use Rattle.cuts.specs.Steps.{Step, disjoint_pairs, dominated_pair, unit_road}
 use Rattle.book.specs.Meaning.{Meaning}
 use Rattle.book.specs.Told.{told_by}
@@ -61,4 +61,4 @@ abbrev pub Holds : Case → Type 0
 Holds c = reported c.budget c.step ≡ c.comes_to
 
 abbrev pub SampleSteps : Type 0
-SampleSteps = All Holds cases
+SampleSteps = AllByRecursion Holds cases
