@@ -1,7 +1,7 @@
 -- A rising list, found again by testing each number.
---     Rising l n xs     xs rises, from l on and below n
---     rising_from       by what stands in it
---     pick_rising       what is picked by the test for being among it is what stands in it
+--     Rising l n xs                      xs rises, from l on and below n
+--     rising_from                        by what stands in it
+--     pick_rising                        what is picked by the test for being among it is what stands in it
 --     pick_here, pick_next, pick_past    a turn of the loop that picks
 use Rattle.std.proofs.Common.{◌≡◌, ℕ, zero, suc, ◌+◌, ◌<◌, ◌≤◌, Bool, true, false, cond, ◌||◌, eqb, List, [], ◌∷◌, Some, None, Option, sym, refl, ap, ◌∙◌, subst, ⊎_elim, arith}
 use Rattle.std.specs.List.{slice_get}

@@ -1,11 +1,11 @@
 -- The bits of words that are filled bit by bit.
---     bits_none, bits_more     one bit more, the lowest
---     bits_lt                  a word of n bits is below 2 ^ n
---     bit_at                   each bit is the one it was filled with
---     bit_in_lem                   and so is each bit of a table
---     set_is                   a bit is set exactly where its test is true
---     bits_step, bits_fit      a turn of the loop that fills a word
---     places_more              a turn of a loop that fills an array
+--     bits_none, bits_more    one bit more, the lowest
+--     bits_lt                 a word of n bits is below 2 ^ n
+--     bit_at                  each bit is the one it was filled with
+--     bit_in_lem              and so is each bit of a table
+--     set_is                  a bit is set exactly where its test is true
+--     bits_step, bits_fit     a turn of the loop that fills a word
+--     places_more             a turn of a loop that fills an array
 use Rattle.std.proofs.Common.{◌≡◌, ℕ, zero, suc, ◌+◌, ◌-◌, ◌*◌, ◌/◌, ◌%◌, ◌^◌, ◌<◌, ◌≤◌, Bool, true, false, eqb, List, length, get_or, set, sym, refl, ap, ◌∙◌, ⊎_elim, pow-suc, arith, pow_mono}
 use Rattle.std.proofs.lemmas.Nat.{div-mul-add, mod_below, mod-mul-add, shr-shr}
 use Rattle.std.proofs.lemmas.List.{get_or-set_other, get_or-set_same}

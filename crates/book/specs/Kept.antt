@@ -1,9 +1,9 @@
 -- What stands in a list of which some are kept.
 --     keeps, passes_over    one element at a time
---     kept_at          what is kept stood in the list, and passes the test
---     kept_order       what is kept stays in its order
---     kept_different   and stands once where it stood once
---     among_kept       to be among what is kept is to pass the test and be among the list
+--     kept_at               what is kept stood in the list, and passes the test
+--     kept_order            what is kept stays in its order
+--     kept_different        and stands once where it stood once
+--     among_kept            to be among what is kept is to pass the test and be among the list
 use Rattle.std.specs.Prelude.{◌≡◌, ℕ, zero, suc, ◌<◌, ◌≤◌, Bool, true, false, cond, ◌&&◌, ◌||◌, List, [], ◌∷◌, Some, None, filter, ◌==◌, refl}
 use Rattle.std.proofs.Math.Bool.{and-false, and-or_distrib_left}
 use Rattle.std.proofs.Common.{⊎_elim, sym, ap, subst, ◌∙◌, arith}

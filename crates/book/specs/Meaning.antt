@@ -1,7 +1,7 @@
 -- What a road-book tells, as one value, and the law that it obeys.
---     leg_of m s p         the links of a leg of pair p, from its top down
---     on_road m l p        link l is live, pair p is open, and l stands on a leg of p
---     rank_at, link_at      the rank and the links of an open pair; 0 and nothing for any other
+--     leg_of m s p        the links of a leg of pair p, from its top down
+--     on_road m l p       link l is live, pair p is open, and l stands on a leg of p
+--     rank_at, link_at    the rank and the links of an open pair; 0 and nothing for any other
 --     Different xs        no number stands at two places of xs
 --     TreeLaw m           if l is on the road of p and on a leg of q, and p does not turn deeper than q, then all that stands
 --                         on that leg of q above l is on the road of p too

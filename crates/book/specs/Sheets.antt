@@ -2,13 +2,13 @@
 --     bit_in ws q l       the bit of pair q and link l
 --     bits_from f l n     the word whose n lowest bits are f of l, l + 1, ..
 --     word_of f k         word k of the table that f fills
---     Filled f ws        ws is that table
+--     Filled f ws         ws is that table
 --     road_test p q l     link l is on the road of pair q of the plan p
 --     first_test p q l    and on its first leg
 --     table_test p t      the test that fills a table
---     pick g n l k       the k-th of the numbers that pass a test
+--     pick g n l k        the k-th of the numbers that pass a test
 --     leg_test p s q l    link l is on a leg of pair q
---     Ranked p rs        rs has the ranks of the plan's pairs, and 0 behind them
+--     Ranked p rs         rs has the ranks of the plan's pairs, and 0 behind them
 use Rattle.std.specs.Prelude.{◌≡◌, ℕ, zero, suc, ◌+◌, ◌*◌, ◌/◌, ◌%◌, ◌^◌, ◌<◌, Bool, true, false, cond, not, ◌&&◌, List, Some, None, Option, slice_index}
 use Rattle.plan.specs.Plans.{broader_of, ends_of}
 use Rattle.plan.specs.Tree.{among, way}

@@ -1,6 +1,6 @@
 -- What a book tells of a plan, and that it is lawful.
 --     told p         links 1 to n - 1 are live, every pair is open, and ranks and legs are those of the tree
---     told_by         the same, of a tree and pairs that no plan need hold
+--     told_by        the same, of a tree and pairs that no plan need hold
 --     told_lawful    this obeys the law of books
 use Rattle.std.specs.Prelude.{◌≡◌, ℕ, ◌+◌, ◌-◌, ◌<◌, ◌≤◌, Bool, true, false, ◌&&◌, ◌||◌, Some, nat_lt}
 use Rattle.std.proofs.Common.{⊎_elim, sym, ap, subst, ◌∙◌, arith}

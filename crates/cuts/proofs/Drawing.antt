@@ -1,6 +1,6 @@
 -- Instances that are written out are sound, and the search tells their fewest.
 --     drawn_sound          an instance that is written out is sound
---     found, not-found     there is a cut within k, or none, as the search says
+--     found, not_found     there is a cut within k, or none, as the search says
 --     one_needed           the fewest is 1 if there is a cut of one link and none of no link
 use Rattle.std.proofs.Common.{◌≡◌, ℕ, true, false, ◌&&◌, ltb, leb, List, [], length, get_or}
 use Rattle.std.proofs.lemmas.Bool.{and_parts, leb-true, ltb-true}

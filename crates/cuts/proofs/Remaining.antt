@@ -1,5 +1,5 @@
 -- What stays when only the links of f and the pairs of g stay.
---     but_for_from                      a link other than l is kept where all but l are
+--     but_for_from                     a link other than l is kept where all but l are
 --     live_in, open_in, on_in          what stays was there
 --     live_stays, open_stays           a link that stays is in f, a pair that stays in g
 --     live_from, open_from, on_from    what was there and is kept stays

@@ -1,5 +1,5 @@
 -- What remains of an instance after a step.
---     remain i f g    only the links of f and the pairs of g stay; the roads lose what does not stay
+--     remain i f g     only the links of f and the pairs of g stay; the roads lose what does not stay
 --     weld_link i l    l is no longer live, and off every road: the two terms that it joins become one
 --     drop_pair i r    r is no longer open
 --     cut_link i l     l is no longer live, and no pair with l on its road is open any more

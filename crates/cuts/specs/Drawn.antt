@@ -1,7 +1,7 @@
 -- Instances that are written out, for examples.
 --     drawn n roads    the links 1 to n are live, and a pair is open for each road, a list of its links
 --     listed xs x      x is in the list
---     up_to n x         x is one of the numbers 1 to n
+--     up_to n x        x is one of the numbers 1 to n
 use Rattle.std.specs.Prelude.{ℕ, Bool, false, ◌&&◌, ◌||◌, List, [], ◌∷◌, length, ◌==◌, nat_le, nat_lt, slice_index_or}
 use Rattle.cuts.specs.Instances.{Instance}
 

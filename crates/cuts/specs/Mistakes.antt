@@ -1,10 +1,10 @@
 -- Three rules that look right and are wrong, each with a small instance that shows it.
---     WeldBoth      weld both of two links that dominate each other
---     DropBoth      drop both of two pairs that dominate each other
---     CutLoose      cut a link that k + 1 pairs have on their roads, though they share another link too
---     two_links      the links 1 and 2 are on the one road: one link parts the pair, and with both welded none can
---     two_pairs      the link 1 is on two roads: one link is needed, and with both pairs dropped none is
---     side_road      the links 1 and 2 are on two roads, the link 2 alone on a third: 2 parts all, who cuts 1 needs 2 as well
+--     WeldBoth     weld both of two links that dominate each other
+--     DropBoth     drop both of two pairs that dominate each other
+--     CutLoose     cut a link that k + 1 pairs have on their roads, though they share another link too
+--     two_links    the links 1 and 2 are on the one road: one link parts the pair, and with both welded none can
+--     two_pairs    the link 1 is on two roads: one link is needed, and with both pairs dropped none is
+--     side_road    the links 1 and 2 are on two roads, the link 2 alone on a third: 2 parts all, who cuts 1 needs 2 as well
 use Rattle.std.specs.Prelude.{ℕ, ◌-◌, ◌≤◌, List, [], ◌∷◌}
 use Rattle.std.specs.List.{AllByRecursion}
 use Rattle.cuts.specs.After.{cut_link, drop_pair, weld_link}

@@ -1,9 +1,9 @@
 -- What is proved of cuts. Each statement is the contract of one public function.
---     ..Bound             how many links a set that parts certain pairs has at least
---     ..LosesNothing      a rule, where it applies, reduces the instance with what is left: see Reduces
---     ..Decided           a rule's test is true just when the rule applies
+--     ..Bound                 how many links a set that parts certain pairs has at least
+--     ..LosesNothing          a rule, where it applies, reduces the instance with what is left: see Reduces
+--     ..Decided               a rule's test is true just when the rule applies
 --     Runs.., Reductions..    the same of many steps
---     Fewest.., Search..  the fewest links of a cut
+--     Fewest.., Search..      the fewest links of a cut
 use Rattle.std.specs.Prelude.{◌≡◌, ℕ, ◌+◌, ◌-◌, ◌≤◌, List, length, Decides}
 use Rattle.std.specs.List.{AllByRecursion}
 use Rattle.cuts.specs.After.{cut_link, drop_pair, weld_link}

@@ -1,11 +1,11 @@
 -- Runs of admitted steps, and what a run promises.
---     Run i b j k c             admitted steps lead from the instance i with the budget b to j with k left; the links c are cut
---     AllAdmitted i k ss        each step of the list is admitted where its turn comes
+--     Run i b j k c                admitted steps lead from the instance i with the budget b to j with k left; the links c are cut
+--     AllAdmitted i k ss           each step of the list is admitted where its turn comes
 --     after_all, left_after_all    the instance after them, and what is left
---     cut_by_all, cost_of_all       the links that they cut, and how often they cut
---     SameFewest i j c f g      f is the fewest of i, g the fewest of j, and f is the links c and g together
---     Faithful i b j k c        whoever solves what remains has solved the start, with as few links; and each has a cut within
---                               what it may spend if the other has
+--     cut_by_all, cost_of_all      the links that they cut, and how often they cut
+--     SameFewest i j c f g         f is the fewest of i, g the fewest of j, and f is the links c and g together
+--     Faithful i b j k c           whoever solves what remains has solved the start, with as few links; and each has a cut
+--                                  within what it may spend if the other has
 use Rattle.std.specs.Prelude.{◌≡◌, ℕ, ◌+◌, List, [], ◌∷◌}
 use Rattle.cuts.specs.Instances.{Instance, CutWithin, Fewest, HasCut, size}
 use Rattle.cuts.specs.Links.{Links, none, union}

@@ -1,7 +1,7 @@
 -- Whether there is a cut of at most k links, by trying every set of links.
---     has_cut i k      there is one
---     some_set f n     f is true of some set of links from 1 to n
---     is_cut i s       s, a set of links of the instance, is a cut
+--     has_cut i k     there is one
+--     some_set f n    f is true of some set of links from 1 to n
+--     is_cut i s      s, a set of links of the instance, is a cut
 --     meets i s p     some link of s is on the road of p
 use Rattle.std.specs.Prelude.{ℕ, zero, suc, ◌+◌, Bool, false, ◌&&◌, ◌||◌, nat_le}
 use Rattle.cuts.specs.Instances.{Instance, size}

@@ -1,11 +1,11 @@
 -- Steps: one rule with the links and pairs that it is applied to.
---     Step               the rule, with its link and its pairs
---     Admitted i k s     the rule applies, and where it cuts there is something left to cut with
---     is_admitted i k s   the same as a test that computes
---     after i s          the instance after the step
---     left_after k s      what is left after it
---     cut_by s            the links that it cuts
---     cost_of s           how many these are: 1 or 0
+--     Step                 the rule, with its link and its pairs
+--     Admitted i k s       the rule applies, and where it cuts there is something left to cut with
+--     is_admitted i k s    the same as a test that computes
+--     after i s            the instance after the step
+--     left_after k s       what is left after it
+--     cut_by s             the links that it cuts
+--     cost_of s            how many these are: 1 or 0
 -- After disjoint pairs the instance stays as it is: there is no cut within what is left, and the work is at its end.
 use Rattle.std.specs.Prelude.{ℕ, ◌-◌, ◌≤◌, Bool, ◌&&◌, List, nat_le}
 use Rattle.cuts.specs.After.{cut_link, drop_pair, weld_link}

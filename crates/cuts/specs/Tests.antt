@@ -1,12 +1,12 @@
 -- The seven rules as tests that compute. Each is true just when its rule of Rules applies, if the instance is sound.
 --     is_idle_link i l, is_dominated_link i l h, is_unit_road i l p, is_dominated_pair i q r,
 --     is_common_factor i k r qs, is_overloaded_link i k l qs, is_disjoint_pairs i k qs
---     all_pairs i f         f is true of every number below the number of pairs
---     all_links i f         f is true of every number from 0 to the highest link
---     all_of f qs           f is true of every pair of the list
---     pairwise f qs        f is true of any two of the list
---     implies a b          b is true if a is
---     shares i f p q       f is true of every link on the roads of both p and q
+--     all_pairs i f     f is true of every number below the number of pairs
+--     all_links i f     f is true of every number from 0 to the highest link
+--     all_of f qs       f is true of every pair of the list
+--     pairwise f qs     f is true of any two of the list
+--     implies a b       b is true if a is
+--     shares i f p q    f is true of every link on the roads of both p and q
 use Rattle.std.specs.Prelude.{ℕ, zero, suc, ◌+◌, Bool, true, false, not, ◌&&◌, ◌||◌, List, [], ◌∷◌, length, ◌==◌}
 use Rattle.cuts.specs.After.{off_road}
 use Rattle.cuts.specs.Instances.{Instance}

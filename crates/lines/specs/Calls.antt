@@ -1,9 +1,9 @@
 -- Which call a line makes, and what comes of it.
---     step_in_lem l             the step that the line l asks for, or nothing where l is no line of the program
---     line_judged m t n l   line number n, in a working with the tally t over a book that tells m: the tally after it, or
---                          its refusal
---     tally_after j t       the tally that a call leaves which j judges
---     LineOutcome          what such a call answers and leaves
+--     step_in l                              the step that the line l asks for, or nothing where l is no line of the program
+--     line_judged m t n l                    line number n, in a working with the tally t over a book that tells m: the tally
+--                                            after it, or its refusal
+--     tally_after j t                        the tally that a call leaves which j judges
+--     LineOutcome                            what such a call answers and leaves
 --     line_number, line_place, line_layer    of a refused line: the number, the place and the layer of the refusal
 use Rattle.std.specs.Prelude.{◌≡◌, ℕ, cond, List, [], ◌∷◌, Some, None, Ok, Err, Option, Result, MatchResult, ◌==◌}
 use Rattle.cuts.specs.Steps.{Step, common_factor, disjoint_pairs, dominated_link, dominated_pair, idle_link, overloaded_link, unit_road}
@@ -47,9 +47,9 @@ abbrev pub step_of : ℕ → Option (List ℕ) → Option Step
 step_of letter None = None
 step_of letter (Some ns) = step_by letter ns
 
-abbrev pub step_in_lem : List ℕ → Option Step
-step_in_lem [] = None
-step_in_lem (letter ∷ bs) = step_of letter (numbers_in bs)
+abbrev pub step_in : List ℕ → Option Step
+step_in [] = None
+step_in (letter ∷ bs) = step_of letter (numbers_in bs)
 
 abbrev pub LineJudgement : Type 0
 LineJudgement = Result Tally LineFault
@@ -64,7 +64,7 @@ call_judged m t n None = Err (NotALine n)
 call_judged m t n (Some s) = held (judged m t s)
 
 abbrev pub line_judged : Meaning → Tally → ℕ → List ℕ → LineJudgement
-line_judged m t n l = call_judged m t n (step_in_lem l)
+line_judged m t n l = call_judged m t n (step_in l)
 
 abbrev pub tally_after : LineJudgement → Tally → Tally
 tally_after (Ok u) t = u

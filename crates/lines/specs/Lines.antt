@@ -1,7 +1,7 @@
 -- The lines of a text. A line ends at a newline byte, which is no part of it, or at the end of the text; an end right
 -- after a newline begins no further line.
---     lines_of bs       the lines of bs, in order
---     open_line b ls    b goes in front of the first line of ls
+--     lines_of bs         the lines of bs, in order
+--     open_line b ls      b goes in front of the first line of ls
 --     NoNewline bs i j    no byte from place i up to, and without, place j is a newline
 use Rattle.std.specs.Prelude.{◌≡◌, ℕ, ◌<◌, ◌≤◌, cond, List, [], ◌∷◌, ◌==◌, ◌≢◌, slice_index}
 

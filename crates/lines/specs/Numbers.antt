@@ -1,9 +1,9 @@
 -- The numbers of a line, behind its letter. Each follows one blank, is 0 to 65,535 and has no leading zero; there are at
 -- most 257 of them.
---     advanced s b      what the byte b does where s stands in front of it: it breaks the rule, it goes on, or it ends a number
---     scanned s bs      the numbers that bs has where s stands in front of it, or nothing where bs breaks the rule
---     behind ns o       the numbers ns, and those of o behind them
---     numbers_in bs      the numbers of a line
+--     advanced s b     what the byte b does where s stands in front of it: it breaks the rule, it goes on, or it ends a number
+--     scanned s bs     the numbers that bs has where s stands in front of it, or nothing where bs breaks the rule
+--     behind ns o      the numbers ns, and those of o behind them
+--     numbers_in bs    the numbers of a line
 use Rattle.std.specs.Prelude.{ℕ, ◌+◌, ◌-◌, ◌*◌, Bool, cond, ◌&&◌, List, [], ◌∷◌, ◌++◌, length, Some, None, Option, ◌==◌, nat_le}
 use Rattle.lines.specs.declared.scan.Scan.{Scan}
 use Rattle.lines.specs.declared.scan.Scan.TheVariants.{AfterBlank, Between, Inside}

@@ -3,8 +3,8 @@
 --     step_line t             what is left after a step, or `none`
 --     line_said n j t         what line number n prints, which j judges, and after which the tally is t
 --     run_said m t n ls       what the lines ls print, the first of them line number n, in a working with the tally t over a
---                            book that tells m
---     Prints file input bs   the program prints bs
+--                             book that tells m
+--     Prints file input bs    the program prints bs
 use Rattle.std.specs.Prelude.{◌≡◌, ℕ, ◌+◌, ◌⊎◌, List, [], ◌∷◌, ◌++◌, Ok, Err, codes, decimal}
 use Rattle.plan.specs.Layout.{Describes, Refuses}
 use Rattle.plan.specs.Refusals.{plan_number, plan_place}

@@ -1,8 +1,8 @@
 -- No file is both a plan and refused, and none is refused for two reasons.
---     early-.., terms-.., pairs-..    a check that fails here has passed where a later one is reached
+--     early_.., terms_.., pairs_..       a check that fails here has passed where a later one is reached
 --     one_term, one_pair, one_surplus    the first place at fault is one
---     agrees      two refusals of a file are the same
---     not_both    a file that describes a plan is not refused
+--     agrees                             two refusals of a file are the same
+--     not_both                           a file that describes a plan is not refused
 use Rattle.std.proofs.Common.{◌≡◌, ℕ, ◌<◌, ◌≤◌, ◌⊎◌, List, length, sym, refl, ap, ◌∙◌, ⊎_elim, arith}
 use Rattle.std.proofs.lemmas.Bool.{cases_order}
 use Rattle.plan.specs.Bits.{whole_bytes, Filled, Surplus as SurplusFrom}

@@ -1,7 +1,7 @@
 -- Arrays in which nothing is written yet.
 --     get_d_blank       each place of a blank array holds what it was filled with
---     blank_rooted     a blank array roots a tree of one term
---     blank_unpaired   a blank array has no pair
+--     blank_rooted      a blank array roots a tree of one term
+--     blank_unpaired    a blank array has no pair
 use Rattle.std.proofs.Common.{◌≡◌, ℕ, zero, suc, ◌<◌, ◌≤◌, get_or, replicate, sym, refl, ap, subst, arith}
 use Rattle.plan.specs.Shape.{Rooted, Unpaired}
 

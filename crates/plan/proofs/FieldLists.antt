@@ -1,12 +1,12 @@
 -- Lists of fields, each a width and a number, and the bits they are written in.
---     joined_append      what two lists give, one behind the other
---     widths fs          how many bits a list of fields takes
---     length_fields      so many bits they are
---     widths_append, widths-head, widths_terms, widths_ends    how many bits the parts of a plan take
---     terms_more, ends_more    the fields of one term more, of one pair more
---     term_bits_more, end_bits_more    and their bits
---     head_bits          the bits of the header
---     plan_length        a plan takes as many bits as its layout says
+--     joined_append                                            what two lists give, one behind the other
+--     widths fs                                                how many bits a list of fields takes
+--     length_fields                                            so many bits they are
+--     widths_append, widths_terms, widths_ends                 how many bits the parts of a plan take
+--     terms_more, ends_more                                    the fields of one term more, of one pair more
+--     term_bits_more, end_bits_more                            and their bits
+--     head_bits                                                the bits of the header
+--     plan_length                                              a plan takes as many bits as its layout says
 use Rattle.std.proofs.Common.{◌≡◌, ℕ, zero, suc, ◌+◌, ◌-◌, ◌*◌, ◌<◌, List, [], ◌∷◌, ◌++◌, length, sym, refl, ap, ◌∙◌, add-mul, one-mul, zero-mul, add-one, arith}
 use Rattle.std.specs.List.{range_with_len, flat_map}
 use Rattle.std.proofs.lemmas.List.FromFn.{map-range_with_len_more}

@@ -1,8 +1,8 @@
 -- Fields that stand one behind the other in bytes.
---     Holds bs i fs     from place i on, the bytes hold the numbers of the fields
---     field_bits_lem        the bits of a field are the bits of its number
---     holds_bits        the bits of such bytes are the bits of the fields
---     bits_hold         and bytes with those bits hold the fields
+--     Holds bs i fs              from place i on, the bytes hold the numbers of the fields
+--     field_bits_lem             the bits of a field are the bits of its number
+--     holds_bits                 the bits of such bytes are the bits of the fields
+--     bits_hold                  and bytes with those bits hold the fields
 --     holds_join, holds_split    for two lists of fields, one behind the other
 --     terms_hold, hold_terms     for the fields of terms, one by one
 --     ends_hold, hold_ends       for the fields of pairs, one by one

@@ -1,10 +1,10 @@
 -- Where numbers stand in a list.
---     none_of_nil       nothing stands in the empty list
---     within            what stands at a place stands within the list
---     at_push, at_last  what stands in a list with one more at its end
---     at_drop, at_take  what stands in the rest and in the front of a list
---     at_some           within the list something stands
---     among_at, at_among   to be among a list is to stand somewhere in it
+--     none_of_nil           nothing stands in the empty list
+--     within                what stands at a place stands within the list
+--     at_push, at_last      what stands in a list with one more at its end
+--     at_drop, at_take      what stands in the rest and in the front of a list
+--     at_some               within the list something stands
+--     among_at, at_among    to be among a list is to stand somewhere in it
 use Rattle.std.proofs.Common.{◌≡◌, ℕ, zero, suc, ◌+◌, ◌<◌, ◌≤◌, Bool, true, false, ◌||◌, eqb, ◌⊎◌, List, [], ◌∷◌, ◌++◌, length, get_or, take, drop, Some, None, sym, refl, ap, ◌∙◌, subst, inl, inr, ⊎_elim, suc-add, zero-add, arith}
 use Rattle.std.specs.List.{slice_get}
 use Rattle.std.proofs.lemmas.Option.{slice_get-get_or}

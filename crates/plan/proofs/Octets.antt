@@ -1,12 +1,12 @@
 -- Bytes that hold bits, eight to a byte.
---     number_more      the number in one bit more
---     number_same      equal bits are equal numbers
---     number_past      behind the end only zero bits follow
---     number_bit       a bit of a number of bits
---     number_bits_lem      the bits of a number give that number
---     length_bytes     how many bytes hold so many bits
---     bit_of_bytes     the bits of the bytes are those that they were made from
---     row_same         rows made from equal parts are equal
+--     number_more        the number in one bit more
+--     number_same        equal bits are equal numbers
+--     number_past        behind the end only zero bits follow
+--     number_bit         a bit of a number of bits
+--     number_bits_lem    the bits of a number give that number
+--     length_bytes       how many bytes hold so many bits
+--     bit_of_bytes       the bits of the bytes are those that they were made from
+--     row_same           rows made from equal parts are equal
 use Rattle.std.proofs.Common.{◌≡◌, ℕ, zero, suc, ◌+◌, ◌-◌, ◌*◌, ◌/◌, ◌%◌, ◌^◌, ◌<◌, ◌≤◌, List, [], ◌∷◌, ◌++◌, map, length, get_or, sym, refl, ap, ◌∙◌, ⊎_elim, mul_assoc, pow-suc, mul-one, div-one, add-one, arith}
 use Rattle.std.specs.List.{range_with_len}
 use Rattle.std.proofs.lemmas.Nat.{div-mul-add, mod-mul-add, shr-shr}

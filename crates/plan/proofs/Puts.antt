@@ -1,8 +1,8 @@
 -- Writing bits into bytes, one behind the other.
---     put-none, put_push, put_append    no bit, one more at the end, two lists one behind the other
---     length_put      no byte comes or goes
+--     put_push, put_append                  one bit more at the end, two lists one behind the other
+--     length_put                            no byte comes or goes
 --     wrote_none, wrote_more, wrote_push    what was written, when more is
---     shifted_bit     a bit shifted to its place stays within its byte
+--     shifted_bit                           a bit shifted to its place stays within its byte
 use Rattle.std.proofs.Common.{◌≡◌, ℕ, ◌+◌, ◌-◌, ◌*◌, ◌/◌, ◌%◌, ◌^◌, ◌<◌, List, [], ◌∷◌, ◌++◌, length, sym, refl, ap, ◌∙◌, subst, add-zero, arith}
 use Rattle.std.proofs.lemmas.Nat.{shl_whole}
 use Rattle.std.proofs.lemmas.List.{length-append, length_push, length-set}

@@ -1,13 +1,13 @@
 -- The roads of a tree.
---     leg_above     a link on the leg to a lies above a and not above b
---     above_leg     and one that does is on that leg
---     rank_comm     the rank does not depend on which term comes first
---     rank_climb    the rank stays where the larger term gives way to its broader term
---     rank_self     a term turns at itself
---     rank_le       and no pair turns deeper than either of its terms
---     leg_is, road_is    which links are on a leg and on a road, by what lies above what
---     leg_at        what stands at a place of a leg
---     roads_join    the tree law, for ways
+--     leg_above                    a link on the leg to a lies above a and not above b
+--     above_leg                    and one that does is on that leg
+--     rank_comm                    the rank does not depend on which term comes first
+--     rank_climb                   the rank stays where the larger term gives way to its broader term
+--     rank_self                    a term turns at itself
+--     rank_le                      and no pair turns deeper than either of its terms
+--     leg_is, road_is              which links are on a leg and on a road, by what lies above what
+--     leg_at                       what stands at a place of a leg
+--     roads_join                   the tree law, for ways
 --     leg_different, leg_bounds    which links stand on a leg
 use Rattle.std.proofs.Common.{◌≡◌, ℕ, ◌+◌, ◌-◌, ◌<◌, ◌≤◌, min, Bool, true, false, not, ◌&&◌, ◌||◌, List, [], ◌∷◌, ◌++◌, length, drop, Some, sym, refl, ap, ◌∙◌, subst, ⊎_elim, arith}
 use mathlib.Core.Bool.{beq}

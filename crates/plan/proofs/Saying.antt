@@ -1,6 +1,6 @@
 -- What the fields of bytes say of a plan.
---     Says bs p          each field of the bytes holds the plan's number
---     says_holds, holds_says     the same, over the list of the plan's fields
+--     Says bs p                 each field of the bytes holds the plan's number
+--     says_holds, holds_says    the same, over the list of the plan's fields
 use Rattle.std.proofs.Common.{◌≡◌, ℕ, ◌+◌, ◌-◌, ◌<◌, List, ◌++◌, sym, ap, subst, arith}
 use Rattle.plan.specs.Layout.{broader_in, broader_place, budget_in, ends_in, pairs_in, terms_in, width_for}
 use Rattle.plan.specs.Packed.{end_fields, head_fields, plan_fields, term_fields}

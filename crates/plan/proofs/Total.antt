@@ -1,8 +1,8 @@
 -- Every file describes a plan or is refused.
 --     first_term, first_pair, first_bit    the first place at fault, or none
---     filled_row      an array that is filled with what a function gives
---     read_plan       a file that passes every check describes a plan
---     read_total      every file describes a plan or is refused
+--     filled_row                           an array that is filled with what a function gives
+--     read_plan                            a file that passes every check describes a plan
+--     read_total                           every file describes a plan or is refused
 use Rattle.std.proofs.Common.{◌≡◌, ℕ, zero, suc, ◌+◌, ◌-◌, ◌*◌, ◌<◌, ◌≤◌, ◌⊎◌, List, length, set, replicate, sym, refl, subst, inl, inr, ⊎_elim, arith}
 use Rattle.std.proofs.lemmas.Bool.{cases_eq, cases_lt}
 use Rattle.plan.specs.Bits.{bit_at, whole_bytes, Filled, Zeros}

@@ -1,10 +1,10 @@
 -- The bits of a list of bytes, the most significant bit of each byte first.
---     Bytes bs          each number of the list is below 256
+--     Bytes bs           each number of the list is below 256
 --     bit_at bs i        the bit at place i, counted from 0
 --     field_at bs i w    the number written in the w bits from place i on
 --     whole_bytes i      how many bytes hold i bits
---     Filled bs i       behind the first i bits only zero bits fill the last byte, and no byte follows
---     Surplus bs i j    j is the first place from i on that keeps bs from being filled
+--     Filled bs i        behind the first i bits only zero bits fill the last byte, and no byte follows
+--     Surplus bs i j     j is the first place from i on that keeps bs from being filled
 use Rattle.std.specs.Prelude.{◌≡◌, ℕ, zero, suc, ◌+◌, ◌-◌, ◌*◌, ◌/◌, ◌%◌, ◌^◌, ◌<◌, ◌≤◌, ◌⊎◌, List, length, slice_index}
 use Rattle.std.specs.List.{AllByRecursion}
 

@@ -1,13 +1,13 @@
 -- Where each number of a packed plan stands, and which file is refused for what.
 -- The numbers stand one behind the other: n in 9 bits, m in 9, the budget in 8, the broader terms of terms 1 to
 -- n - 1 in w bits each, both terms of each pair in w bits each. The width w is the least with n ≤ 2 ^ w.
---     terms_in, pairs_in, budget_in     the three numbers of the header
---     broader_in bs t                 the broader term of term t
---     ends_in bs q                    the two terms of pair q
---     bits_in bs                      how many bits all these take
---     Headed, Long, Tree, Pairs      what has been checked, in this order: the header, the length, the terms, the pairs
---     Describes bs p                 the bytes pass every check and say what p holds
---     Refuses bs f                   the first check that fails is the one that f names, at f's place
+--     terms_in, pairs_in, budget_in    the three numbers of the header
+--     broader_in bs t                  the broader term of term t
+--     ends_in bs q                     the two terms of pair q
+--     bits_in bs                       how many bits all these take
+--     Headed, Long, Tree, Pairs        what has been checked, in this order: the header, the length, the terms, the pairs
+--     Describes bs p                   the bytes pass every check and say what p holds
+--     Refuses bs f                     the first check that fails is the one that f names, at f's place
 use Rattle.std.specs.Prelude.{◌≡◌, ℕ, zero, suc, ◌+◌, ◌-◌, ◌*◌, ◌^◌, ◌<◌, ◌≤◌, cond, ◌⊎◌, List, length, nat_le}
 use Rattle.plan.specs.Bits.{field_at, whole_bytes, Filled, Surplus as SurplusFrom}
 use Rattle.plan.specs.Plans.{broader_of, ends_of}

@@ -1,12 +1,12 @@
 -- The packed bytes of a plan, from its numbers alone.
 -- A field is a width and a number: the number is written in so many bits, the most significant first.
---     number_bits w v       the number v in w bits
+--     number_bits w v            the number v in w bits
 --     fields_of n m k up ends    the fields of n terms, m pairs and the budget k, in file order
---     plan_fields p         those of a plan
---     bits_of p             the bits of a plan: those of its fields, as one list
---     number_at bits i w    the number in the w bits from place i on; behind the end all bits are zero
---     bytes_of bits         the bytes that hold the bits, eight to a byte; zero bits fill the last
---     packed p             the bytes of a plan's bits
+--     plan_fields p              those of a plan
+--     bits_of p                  the bits of a plan: those of its fields, as one list
+--     number_at bits i w         the number in the w bits from place i on; behind the end all bits are zero
+--     bytes_of bits              the bytes that hold the bits, eight to a byte; zero bits fill the last
+--     packed p                   the bytes of a plan's bits
 use Rattle.std.specs.Prelude.{ℕ, zero, suc, ◌+◌, ◌-◌, ◌*◌, ◌/◌, ◌%◌, List, [], ◌∷◌, ◌++◌, map, length, slice_index}
 use Rattle.std.specs.List.{range_with_len, flat_map}
 use Rattle.plan.specs.Bits.{whole_bytes}

@@ -1,6 +1,6 @@
 -- The number, the place and the layer of each refusal.
---     Layer                    where a refusal comes from: the bits, the plan, the working or the line
---     bits_number, bits_place    of a fault of the bits
+--     Layer                                  where a refusal comes from: the bits, the plan, the working or the line
+--     bits_number, bits_place                of a fault of the bits
 --     plan_number, plan_place, plan_layer    of a fault of the plan, which holds that of the bits whole
 use Rattle.std.specs.Prelude.{ℕ}
 use Rattle.plan.specs.declared.fault.BitsFault.{BitsFault}

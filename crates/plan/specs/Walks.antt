@@ -1,8 +1,8 @@
 -- Walks along the links of a plan, where some links are cut.
---     Joins p x a b     link x is the tree edge between terms a and b
---     Walk p s a b      a walk from a to b over links that are not in the set s
+--     Joins p x a b      link x is the tree edge between terms a and b
+--     Walk p s a b       a walk from a to b over links that are not in the set s
 --     on_road p a b x    link x is on the road between a and b
---     Meets p s a b     some link of s is on the road between a and b
+--     Meets p s a b      some link of s is on the road between a and b
 use Rattle.std.specs.Prelude.{◌≡◌, ℕ, ◌<◌, Bool, true, false, ◌||◌, ◌⊎◌}
 use Rattle.plan.specs.Plans.{broader_of}
 use Rattle.plan.specs.Tree.{among, leg}

@@ -1,8 +1,8 @@
 -- What bits that are written leave in the bytes.
---     put_bit bs i b        bit b at place i: its byte is cleared at the first bit, and the bit put in
---     put_bits bs i bits    a list of bits from place i on
---     Wrote bs i cs j bits     that list was written: the bytes bs and place i became cs and j
---     Packs p old new r    what packing a plan leaves in a buffer, and what it answers
+--     put_bit bs i b          bit b at place i: its byte is cleared at the first bit, and the bit put in
+--     put_bits bs i bits      a list of bits from place i on
+--     Wrote bs i cs j bits    that list was written: the bytes bs and place i became cs and j
+--     Packs p old new r       what packing a plan leaves in a buffer, and what it answers
 use Rattle.std.specs.Prelude.{◌≡◌, ℕ, ◌+◌, ◌-◌, ◌*◌, ◌/◌, ◌%◌, ◌^◌, ◌<◌, cond, List, [], ◌∷◌, ◌++◌, length, drop, Result, MatchResult, ◌==◌, bit_or, slice_index, slice_set}
 use Rattle.plan.specs.Packed.{packed}
 use Rattle.plan.specs.declared.fault.BitsFault.{BitsFault}

@@ -1,8 +1,8 @@
 -- The small plan, as a tree and pairs that compute.
 --     sample_up, sample_ends    its broader terms and its pairs
---     booked n k up ends      what a book tells of such a tree and such pairs
---     sample_told             a plan that is the sample is told as this
---     sample_cut              its rough cut
+--     booked n k up ends        what a book tells of such a tree and such pairs
+--     sample_told               a plan that is the sample is told as this
+--     sample_cut                its rough cut
 use Rattle.std.proofs.Common.{◌≡◌, ℕ, zero, suc, ◌-◌, ◌&&◌, ltb, [], ◌∷◌, get_or, sym, refl, ap, ◌∙◌, subst, arith}
 use mathlib.Core.Path.{fun_ext}
 use Rattle.plan.specs.Plans.{broader_of, ends_of}

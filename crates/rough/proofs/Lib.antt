@@ -12,6 +12,7 @@ pub mod Nearest
 pub mod Ordered
 pub mod Pairs
 pub mod Rising
+pub mod Room
 pub mod Somewhere
 pub mod Sorting
 pub mod Tops

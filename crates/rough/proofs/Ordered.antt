@@ -1,6 +1,6 @@
 -- The open pairs of a lawful book stand in order in one way.
---     in_order_lem     the list in_order has just the open pairs, each before those behind it
---     one_order    and so has no other list
+--     in_order_lem    the list in_order has just the open pairs, each before those behind it
+--     one_order       and so has no other list
 use Rattle.std.proofs.Common.{◌≡◌, ℕ, ◌<◌, true, List}
 use Rattle.std.proofs.ByRecursion.{All-weaker}
 use Rattle.cuts.proofs.Bound.{pairwise_weaker}

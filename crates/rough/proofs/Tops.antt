@@ -1,11 +1,11 @@
 -- The top links of a pair's legs.
---     tops m p        the top links of both legs of p
---     with_tops_lem       choosing them one after the other chooses them all
---     head_is_top     what stands first on a leg is one of the tops
---     tops_live       the tops are live
---     tops_few        and at most two
---     tops_meet       they meet their own pair, if its road is not empty
---     tops_apart      a pair whose rank is not the greater, and that no top of another meets, shares no link with it
+--     tops m p         the top links of both legs of p
+--     with_tops_lem    choosing them one after the other chooses them all
+--     head_is_top      what stands first on a leg is one of the tops
+--     tops_live        the tops are live
+--     tops_few         and at most two
+--     tops_meet        they meet their own pair, if its road is not empty
+--     tops_apart       a pair whose rank is not the greater, and that no top of another meets, shares no link with it
 use Rattle.std.proofs.Common.{◌≡◌, ℕ, ◌≤◌, true, false, ◌&&◌, ◌||◌, List, [], ◌∷◌, Some, sym, refl, ap, ⊎_elim, zero-le, arith}
 use mathlib.Core.Bool.{or_assoc}
 use mathlib.Core.Path.{fun_ext}

@@ -1,7 +1,7 @@
 -- What the arrays of a run say.
---     listed a          the numbers of a list
---     held xs           the set that an array of marks has
---     numbered xs       the numbers of an array, 0 behind it
+--     listed a           the numbers of a list
+--     held xs            the set that an array of marks has
+--     numbered xs        the numbers of an array, 0 behind it
 --     laid_into xs ys    the elements xs, followed by what stood behind them in ys
 use Rattle.std.specs.Prelude.{ℕ, Bool, false, List, ◌++◌, length, take, drop, slice_index, slice_index_or}
 use Rattle.cuts.specs.Links.{Links}

@@ -1,11 +1,11 @@
 -- The order in which a rough cut goes through the open pairs: by falling rank, equal ranks by rising number.
 --     Before m p q      p comes before q
 --     InOrder m ps      ps are just the open pairs, each before all that stand behind it
---     in_order m         these pairs in this order, as a list that computes
+--     in_order m        these pairs in this order, as a list that computes
 --     earlier r p q     the order as a test, over the ranks r
 --     insert b x ys     x is put into ys, in front of the first that it comes before
 --     sorted b f n      the numbers below n that f has, put in one by one
---     first_of b f n     the first of them under the order b
+--     first_of b f n    the first of them under the order b
 use Rattle.std.specs.Prelude.{◌≡◌, ℕ, zero, suc, ◌<◌, Bool, true, cond, ◌&&◌, ◌||◌, ◌⊎◌, List, [], ◌∷◌, Some, None, Option, ◌==◌, nat_lt}
 use Rattle.std.specs.List.{AllByRecursion}
 use Rattle.cuts.specs.Instances.{Open}

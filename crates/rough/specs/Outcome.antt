@@ -1,7 +1,8 @@
 -- What a rough cut answers, and what the two lent slices hold then.
---     empty_road m p     p is open and neither of its legs has a link: no cut separates it
+--     empty_road m p    p is open and neither of its legs has a link: no cut separates it
 --     lowest f n        the lowest number below n that f has
 --     answer m a b      the answer where the slice for links has a places and that for pairs b
+--     roomy_answer m    the answer where both slices have room
 --     laid r xs ys      a slice that held ys: the elements xs followed by what stood behind, or ys where r is a refusal
 use Rattle.std.specs.Prelude.{ℕ, zero, suc, Bool, true, false, cond, ◌&&◌, List, [], ◌∷◌, ◌++◌, length, drop, Some, None, Ok, Err, Option, Result, nat_lt}
 use Rattle.book.specs.Meaning.{Meaning}
@@ -40,6 +41,9 @@ unless_empty None r = r
 
 abbrev pub answer : Meaning → ℕ → ℕ → Counts
 answer m a b = unless_empty (lowest (empty_road m) m.pairs) (fitted (links_of m) (apart_of m) a b)
+
+abbrev pub roomy_answer : Meaning → Counts
+roomy_answer m = unless_empty (lowest (empty_road m) m.pairs) (Ok (length (links_of m), length (apart_of m)))
 
 abbrev pub laid : Counts → List ℕ → List ℕ → List ℕ
 laid (Ok c) xs ys = xs ++ drop (length xs) ys

@@ -1,5 +1,5 @@
 -- What a rough cut promises, in the words of cuts alone.
---     listed_in xs           the set of the links that stand in xs
+--     listed_in xs          the set of the links that stand in xs
 --     RoughCut m ls ps      ls is a cut, rising; ps are open pairs that share no link, two by two; so every cut has at least
 --                           as many links as ps has pairs, and ls has at most twice the links of any cut
 --     OneOrder m            the open pairs stand in order in one way, and that is what the list in_order is

@@ -1,13 +1,13 @@
 -- What a rough cut chooses and writes down.
---     Gone              how far it has come: the links chosen, and the pairs written down as apart
---     top ls            the link at the top of a leg, if the leg has one
---     with_tops m s p    the links s and the tops of the two legs of p
---     take_up m g p      after the pair p: if no chosen link is on its road, it is written down and its tops are chosen
---     go_through m g ps  after the pairs ps, one after the other
---     gone m            after all open pairs in their order, from no link and no pair
---     rising s n        the numbers below n that s has, from the lowest up
---     links_of m         the links that a rough cut writes
---     apart_of m         the pairs that it writes, in the order written down
+--     Gone                 how far it has come: the links chosen, and the pairs written down as apart
+--     top ls               the link at the top of a leg, if the leg has one
+--     with_tops m s p      the links s and the tops of the two legs of p
+--     take_up m g p        after the pair p: if no chosen link is on its road, it is written down and its tops are chosen
+--     go_through m g ps    after the pairs ps, one after the other
+--     gone m               after all open pairs in their order, from no link and no pair
+--     rising s n           the numbers below n that s has, from the lowest up
+--     links_of m           the links that a rough cut writes
+--     apart_of m           the pairs that it writes, in the order written down
 use Rattle.std.specs.Prelude.{ℕ, zero, suc, ◌+◌, false, cond, List, [], ◌∷◌, ◌++◌, ◌==◌}
 use Rattle.cuts.specs.Links.{Links, none, union}
 use Rattle.cuts.specs.Search.{meets}

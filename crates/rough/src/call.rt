@@ -1,7 +1,7 @@
 // The rough cut of a book.
 ghost use Rattle.std.specs.Prelude.{◌≡◌, ◌+◌, ◌≤◌, length};
 ghost use Rattle.rough.specs.Arrays.{held, listed};
-ghost use Rattle.rough.specs.Outcome.{answer, fitted, laid};
+ghost use Rattle.rough.specs.Outcome.{answer, fitted, laid, roomy_answer};
 ghost use Rattle.rough.specs.Promise.{Promised};
 ghost use Rattle.rough.specs.Run.{apart_of, links_of, rising};
 
@@ -50,7 +50,7 @@ fn lay(
 // Goes through the open pairs by falling rank, equal ranks by rising number. A pair that no chosen link meets is written
 // down as apart, and the top links of its legs are chosen. The links lie in the first slice, rising, and the apart pairs
 // in the second; the answer is how many. Every cut has at least as many links as there are apart pairs, and the links
-// are at most twice as many as those of any cut.
+// are at most twice as many as those of any cut. Slices of 256 places always suffice.
 pub fn rough<B: RoadBook>(
     book: &B,
     links: &mut [u16],
@@ -60,6 +60,7 @@ pub fn rough<B: RoadBook>(
     ensures cut { links.new ≡ laid result (links_of (B.meaning book.now)) links.old }
     ensures pairs { apart.new ≡ laid result (apart_of (B.meaning book.now)) apart.old }
     ensures promise { Promised (B.meaning book.now) result links.new apart.new }
+    ensures room { 256 ≤ length links.old → 256 ≤ length apart.old → result ≡ roomy_answer (B.meaning book.now) }
 {
     if let Some(pair) = lowest_empty(book) {
         return Err(RoughFault::EmptyRoad(pair));

@@ -1,7 +1,7 @@
 -- Searches through a list, as a loop goes through it.
---     closed_here, closed_next, closed_none     for the first pair that is not open
---     among_here, among_next, among_none        for a number
---     among_append    among two lists, one behind the other
+--     closed_here, closed_next, closed_none                     for the first pair that is not open
+--     among_here, among_next, among_none                        for a number
+--     among_append                                              among two lists, one behind the other
 --     repeat_in_front, repeat_here, repeat_next, repeat_none    for the first that repeats an earlier one
 use Rattle.std.proofs.Common.{◌≡◌, ℕ, ◌+◌, ◌<◌, ◌≤◌, Bool, true, false, cond, ◌||◌, eqb, List, [], ◌∷◌, ◌++◌, length, get_or, take, drop, Some, None, sym, refl, ap, ◌∙◌, append_assoc}
 use mathlib.Core.Bool.{or_assoc}

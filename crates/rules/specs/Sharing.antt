@@ -1,6 +1,6 @@
 -- Which links several pairs may have in common, and whether they have no others.
---     may_share i c x        pairs that may have c in common may share the link x
---     share_only i c p q     two pairs share no other links
+--     may_share i c x       pairs that may have c in common may share the link x
+--     share_only i c p q    two pairs share no other links
 --     towards f q p         f of p and q, as a test of p
 use Rattle.std.specs.Prelude.{ℕ, Bool}
 use Rattle.cuts.specs.Instances.{Instance}

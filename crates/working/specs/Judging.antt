@@ -1,10 +1,10 @@
 -- Which steps are admitted, and what they do.
 --     rule_of s          the step that is asked for, as a rule with its links and pairs
---     check b f r       r where b is true, and the refusal f where it is not; check_none and check_list likewise
---     ruled i t s       the step s, in an open working with the tally t whose rest poses the instance i: the tally after
---                       it, or the first refusal that meets it
---     judged m t s      the same in any working over a book that tells m
---     Outcome j t r u   a call that j judges answers r and leaves the tally u where it found t
+--     check b f r        r where b is true, and the refusal f where it is not; check_none and check_list likewise
+--     ruled i t s        the step s, in an open working with the tally t whose rest poses the instance i: the tally after
+--                        it, or the first refusal that meets it
+--     judged m t s       the same in any working over a book that tells m
+--     Outcome j t r u    a call that j judges answers r and leaves the tally u where it found t
 use Rattle.std.specs.Prelude.{◌≡◌, ℕ, ◌+◌, Bool, true, false, cond, ◌&&◌, List, [], ◌∷◌, length, Some, None, Ok, Err, Option, Result, MatchResult, ◌==◌, slice_index}
 use Rattle.cuts.specs.After.{off_road}
 use Rattle.cuts.specs.Instances.{Instance}

@@ -1,9 +1,9 @@
 -- What the marks of a tally become.
---     fresh k         nothing marked or entered, k left, open
---     weld_link l t    link l is welded
---     cut_link i l t   link l is cut, which lowers what is left by one and drops every pair whose road passes it
---     drop_pair r t    pair r is dropped
---     end_none t       the working ends as none
+--     fresh k              nothing marked or entered, k left, open
+--     weld_link l t        link l is welded
+--     cut_link i l t       link l is cut, which lowers what is left by one and drops every pair whose road passes it
+--     drop_pair r t        pair r is dropped
+--     end_none t           the working ends as none
 --     drop_where f n ds    each pair below n of which f is true is dropped
 use Rattle.std.specs.Prelude.{ℕ, zero, suc, ◌-◌, Bool, true, false, cond, List, replicate, slice_set}
 use Rattle.cuts.specs.Instances.{Instance}

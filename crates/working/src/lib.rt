@@ -7,6 +7,7 @@ mod lists;
 mod marking;
 mod refusals;
 mod rest;
+mod rough_cut;
 mod singles;
 mod step;
 mod steps;

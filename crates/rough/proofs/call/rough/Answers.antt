@@ -1,9 +1,10 @@
-use Rattle.std.proofs.Common.{◌≡◌, ◌+◌, length, sym, ap, ◌∙◌, rules}
+use Rattle.std.proofs.Common.{◌≡◌, ◌+◌, length, Ok, sym, ap, ◌∙◌, rules}
 use Rattle.rough.specs.Arrays.{gone_by, held, listed}
-use Rattle.rough.specs.Outcome.{fitted, laid, unless_empty}
+use Rattle.rough.specs.Outcome.{answer, fitted, laid, unless_empty}
 use Rattle.rough.specs.Run.{apart_of, gone, links_of, rising}
 use Rattle.rough.proofs.Hopeless.{lowest_empty}
 use Rattle.rough.proofs.Laying.{promised}
+use Rattle.rough.proofs.Room.{has_room}
 use Rattle.rough.proofs.call.rough.Goals as goal
 
 pub returns-in-Some : goal.returns-in-Some
@@ -16,6 +17,7 @@ returns-in-Some g c =
       cut = search rules;
       pairs = search rules;
       promise = lowest_empty m (g.B.RoadBook.lawful b) c.in-Some.pair found;
+      room = λ h k. ap (λ o. unless_empty o (Ok (length (links_of m), length (apart_of m)))) (sym found);
     }
 
 pub returns : goal.returns
@@ -36,9 +38,11 @@ returns g c =
     let counts : r ≡ fitted (links_of m) (apart_of m) (length xs) (length ys) = c.lay.ensures.counts ∙ ap (λ ls. fitted ls (listed p) (length xs) (length ys)) cut ∙ ap (λ ps. fitted (links_of m) ps (length xs) (length ys)) pairs in
     let left = c.lay.ensures.cut ∙ ap (λ ls. laid r ls xs) cut in
     let right = c.lay.ensures.pairs ∙ ap (λ ps. laid r ps ys) pairs in
+    let answered : r ≡ answer m (length xs) (length ys) = counts ∙ ap (λ o. unless_empty o (fitted (links_of m) (apart_of m) (length xs) (length ys))) (sym none) in
     record {
-      counts = counts ∙ ap (λ o. unless_empty o (fitted (links_of m) (apart_of m) (length xs) (length ys))) (sym none);
+      counts = answered;
       cut = left;
       pairs = right;
       promise = promised m law none r xs ys c.lay.new.links c.lay.new.apart counts left right;
+      room = λ h k. answered ∙ has_room m law (length xs) (length ys) h k;
     }
