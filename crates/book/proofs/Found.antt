@@ -2,12 +2,12 @@
 --     on_told       a link that lies above one of a pair's terms alone is on its road
 --     first_told    the link so far down the way to the first term is the one at that place of the first leg
 --     second_told   the same of the second
-use Rattle.std.proofs.Common.{◌≡◌, ℕ, ◌+◌, ◌-◌, ◌^◌, ◌<◌, ◌≤◌, min, Bool, true, not, ◌&&◌, ◌||◌, ltb, drop, Option, sym, ap, ◌∙◌, subst, arith}
+use Rattle.std.proofs.Common.{◌≡◌, ℕ, ◌+◌, ◌-◌, ◌^◌, ◌≤◌, min, Bool, true, not, ◌&&◌, ◌||◌, ltb, drop, Option, sym, ap, ◌∙◌, arith}
 use mathlib.Core.Bool.{beq}
 use Rattle.std.specs.List.{slice_get}
-use Rattle.std.proofs.lemmas.Bool.{cond-true, ltb-true}
+use Rattle.std.proofs.lemmas.Bool.{cond-true}
 use Rattle.plan.specs.Plans.{broader_of, ends_of}
-use Rattle.plan.specs.Tree.{among, leg, rank, way}
+use Rattle.plan.specs.Tree.{among, rank, way}
 use Rattle.plan.specs.declared.shape.Plan.{Plan}
 use Rattle.plan.proofs.Climbs.{plan_falls}
 use Rattle.plan.proofs.Roads.{leg_at, rank_comm, road_is}

@@ -3,7 +3,7 @@
 --     different_fits            different numbers from 1 to h are at most h many
 --     rank_low                  no rank is over 255
 --     leg_short                 so no leg has more than 255 links
-use Rattle.std.proofs.Common.{◌≡◌, ℕ, zero, suc, ◌<◌, ◌≤◌, Bool, true, not, eqb, List, [], ◌∷◌, length, Some, filter, sym, refl, ap, ◌∙◌, subst, ⊎_elim, arith}
+use Rattle.std.proofs.Common.{◌≡◌, ℕ, zero, suc, ◌<◌, ◌≤◌, Bool, true, not, eqb, List, [], ◌∷◌, length, Some, filter, sym, refl, ap, ◌∙◌, ⊎_elim, arith}
 use Rattle.std.specs.List.{slice_get}
 use Rattle.std.proofs.lemmas.Bool.{and_parts, cases_Bool, cases_eq, cond-false, cond-true, eq-eqb, eqb-false, ne_eqb, not_from_false, not_from_true, not-true}
 use Rattle.plan.proofs.Members.{at_among}

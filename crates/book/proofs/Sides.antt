@@ -3,10 +3,10 @@
 --     leg_rises       and so do those on a leg
 --     leg_picked      so what is picked by that test is what stands on the leg
 --     leg_tested      a link passes the test of a leg exactly when it is on it
-use Rattle.std.proofs.Common.{◌≡◌, ℕ, suc, ◌+◌, ◌<◌, ◌≤◌, Bool, true, false, not, ◌&&◌, ◌||◌, ltb, length, take, drop, Some, None, sym, ap, ◌∙◌, ⊎_elim, arith}
+use Rattle.std.proofs.Common.{◌≡◌, ℕ, suc, ◌+◌, ◌<◌, true, not, ◌&&◌, ◌||◌, ltb, length, Some, None, sym, ap, ◌∙◌, ⊎_elim, arith}
 use Rattle.std.specs.List.{slice_get}
 use Rattle.std.proofs.lemmas.List.{length_push}
-use Rattle.std.proofs.lemmas.Bool.{and_from, and_left, and_parts, and_right, both_ways, cases_Bool, cond-true, not_from_false, not-true, or_cases, or_left, or_right}
+use Rattle.std.proofs.lemmas.Bool.{and_from, and_parts, and_right, both_ways, cond-true, not_from_false, not-true, or_cases, or_left, or_right}
 use Rattle.plan.specs.Plans.{broader_of, ends_of}
 use Rattle.plan.specs.Tree.{Falls, among, leg, way}
 use Rattle.plan.specs.declared.shape.Plan.{Plan}
@@ -15,7 +15,7 @@ use Rattle.plan.proofs.Members.{among_at, at_drop, at_push, at_take}
 use Rattle.plan.proofs.Roads.{leg_above, leg_bounds, same_tests}
 use Rattle.plan.proofs.Ways.{depth_at, way_bounds, way_front, way_more}
 use Rattle.book.specs.Meaning.{leg_of, link_at, on_road}
-use Rattle.book.specs.Sheets.{first_test, leg_test, pick, road_test}
+use Rattle.book.specs.Sheets.{first_test, leg_test, pick}
 use Rattle.book.specs.Told.{ends_in_lem, told, told_live_legs}
 use Rattle.book.specs.declared.leg.Leg.{Leg}
 use Rattle.book.specs.declared.leg.Leg.TheVariants.{First, Second}

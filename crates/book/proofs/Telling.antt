@@ -3,10 +3,10 @@
 --     road_told        the roads of a book that tells a plan are the plan's
 --     cuts_alike       so its cuts are the plan's
 --     roads_there      and no road is empty
-use Rattle.std.proofs.Common.{◌≡◌, ℕ, ◌-◌, ◌<◌, ◌≤◌, Bool, true, false, ◌&&◌, ◌||◌, sym, refl, ap, ◌∙◌, subst, arith}
+use Rattle.std.proofs.Common.{◌≡◌, ℕ, ◌<◌, true, ◌&&◌, ◌||◌, sym, refl, ap, ◌∙◌, arith}
 use Rattle.std.proofs.lemmas.Bool.{and_from, and_parts, lt-ltb, or_right}
 use Rattle.cuts.specs.Instances.{Cut, NoEmptyRoad}
-use Rattle.cuts.specs.Links.{In, Links}
+use Rattle.cuts.specs.Links.{Links}
 use Rattle.plan.specs.Plans.{broader_of, ends_of}
 use Rattle.plan.specs.Tree.{among}
 use Rattle.plan.specs.declared.shape.Plan.{Plan}
@@ -15,7 +15,7 @@ use Rattle.plan.proofs.Roads.{above_leg}
 use Rattle.book.specs.Meaning.{Lawful, Meaning, on_road}
 use Rattle.book.specs.Posed.{posed}
 use Rattle.book.specs.Tells.{PlanCut, Tells, plan_first, plan_second}
-use Rattle.book.specs.Told.{ends_in_lem, is_link_lem, told}
+use Rattle.book.specs.Told.{is_link_lem, told}
 
 pub told_tells : (p : Plan) → Tells (told p) p
 told_tells p = record {

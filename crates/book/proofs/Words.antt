@@ -1,7 +1,7 @@
 -- The bits of words that are filled bit by bit.
 --     bits_none, bits_more    one bit more, the lowest
 --     bits_lt                 a word of n bits is below 2 ^ n
---     bit_at                  each bit is the one it was filled with
+--     bit_at_lem              each bit is the one it was filled with
 --     bit_in_lem              and so is each bit of a table
 --     set_is                  a bit is set exactly where its test is true
 --     bits_step, bits_fit     a turn of the loop that fills a word
@@ -28,18 +28,18 @@ pub bits_lt : (f : ℕ → Bool) (n l : ℕ) → bits_from f l n < 2 ^ n
 bits_lt f zero l = omega (arith, bits_none f l)
 bits_lt f (suc n) l = omega (arith, bits_more f l n, bits_lt f n (l + 1), bit_lt (f l), pow-suc 2 n)
 
-pub bit_at : (f : ℕ → Bool) (j n l : ℕ) → j < n → bits_from f l n / 2 ^ j % 2 ≡ bit_of (f (l + j))
-bit_at f j zero l h = absurd (omega arith)
-bit_at f zero (suc n) l h =
+pub bit_at_lem : (f : ℕ → Bool) (j n l : ℕ) → j < n → bits_from f l n / 2 ^ j % 2 ≡ bit_of (f (l + j))
+bit_at_lem f j zero l h = absurd (omega arith)
+bit_at_lem f zero (suc n) l h =
     let e : l + 0 ≡ l = omega arith in
     rw e (omega (arith, bits_more f l n, bit_lt (f l)))
-bit_at f (suc j) (suc n) l h =
+bit_at_lem f (suc j) (suc n) l h =
     let w = bits_from f (l + 1) n in
     let half : bits_from f l (suc n) / 2 ^ 1 ≡ w = omega (arith, bits_more f l n, bit_lt (f l)) in
     let e : 1 + j ≡ suc j = omega arith in
     let moved : l + 1 + j ≡ l + suc j = omega arith in
     ap (λ k. bits_from f l (suc n) / 2 ^ k % 2) (sym e) ∙ ap (λ x. x % 2) (sym (shr-shr (bits_from f l (suc n)) 1 j)) ∙
-    ap (λ x. x / 2 ^ j % 2) half ∙ bit_at f j n (l + 1) (omega arith) ∙ ap (λ k. bit_of (f k)) moved
+    ap (λ x. x / 2 ^ j % 2) half ∙ bit_at_lem f j n (l + 1) (omega arith) ∙ ap (λ k. bit_of (f k)) moved
 
 pub bit_in_lem : (f : ℕ → ℕ → Bool) (ws : List ℕ) (q l : ℕ) → Filled f ws → q < 256 → l < 256 → bit_in ws q l ≡ bit_of (f q l)
 bit_in_lem f ws q l filled hq hl =
@@ -48,7 +48,7 @@ bit_in_lem f ws q l filled hq hl =
     let col : k % 4 ≡ l / 64 = mod-mul-add q 4 (l / 64) (omega arith) in
     let there : k % 4 * 64 + l % 64 ≡ l = omega (arith, col) in
     ap (λ w. w / 2 ^ (l % 64) % 2) (filled k (omega arith)) ∙
-    bit_at (f (k / 4)) (l % 64) 64 (k % 4 * 64) (mod_below l 64 (omega arith)) ∙
+    bit_at_lem (f (k / 4)) (l % 64) 64 (k % 4 * 64) (mod_below l 64 (omega arith)) ∙
     ap (λ x. bit_of (f (k / 4) x)) there ∙ ap (λ x. bit_of (f x l)) row
 
 -- a word is filled from its highest bit down

@@ -1,7 +1,7 @@
 -- The instance that a book poses: what counts of its meaning for cuts.
 --     posed m          the live links, the open pairs, and which link is on which road
 --     lawful_sound     the instance of a lawful book is sound
-use Rattle.std.specs.Prelude.{◌≡◌, ℕ, true, ◌&&◌, ◌||◌}
+use Rattle.std.specs.Prelude.{◌&&◌, ◌||◌}
 use Rattle.std.proofs.lemmas.Bool.{and_parts}
 use Rattle.cuts.specs.Instances.{Instance, Sound}
 use Rattle.plan.specs.Tree.{among}

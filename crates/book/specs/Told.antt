@@ -2,8 +2,8 @@
 --     told p         links 1 to n - 1 are live, every pair is open, and ranks and legs are those of the tree
 --     told_by        the same, of a tree and pairs that no plan need hold
 --     told_lawful    this obeys the law of books
-use Rattle.std.specs.Prelude.{◌≡◌, ℕ, ◌+◌, ◌-◌, ◌<◌, ◌≤◌, Bool, true, false, ◌&&◌, ◌||◌, Some, nat_lt}
-use Rattle.std.proofs.Common.{⊎_elim, sym, ap, subst, ◌∙◌, arith}
+use Rattle.std.specs.Prelude.{◌≡◌, ℕ, ◌-◌, ◌<◌, ◌≤◌, Bool, true, ◌&&◌, ◌||◌, Some, nat_lt}
+use Rattle.std.proofs.Common.{⊎_elim, subst, arith}
 use Rattle.std.specs.List.{slice_get}
 use Rattle.std.proofs.lemmas.Bool.{and_from, and_parts, lt-ltb, ltb-true, or_cases, or_left, or_right}
 use Rattle.plan.specs.Plans.{broader_of, ends_of}
@@ -11,7 +11,7 @@ use Rattle.plan.specs.Tree.{among, leg, rank}
 use Rattle.plan.specs.declared.shape.Plan.{Plan}
 use Rattle.plan.proofs.Climbs.{plan_falls}
 use Rattle.plan.proofs.Roads.{leg_bounds, leg_different, rank_comm, rank_le, roads_join}
-use Rattle.book.specs.Meaning.{Different, Lawful, Meaning, TreeLaw, leg_of, on_road}
+use Rattle.book.specs.Meaning.{Different, Lawful, Meaning, TreeLaw, leg_of}
 use Rattle.book.specs.declared.leg.Leg.{Leg}
 use Rattle.book.specs.declared.leg.Leg.TheVariants.{First, Second}
 

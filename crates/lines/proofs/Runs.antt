@@ -1,7 +1,7 @@
 -- What has been printed, from line to line.
 --     run_more    one line more
 --     run_all     no line is left
-use Rattle.std.proofs.Common.{◌≡◌, ℕ, ◌+◌, ◌≤◌, List, [], ◌∷◌, ◌++◌, length, drop, sym, refl, ap, ◌∙◌, subst, append_assoc}
+use Rattle.std.proofs.Common.{◌≡◌, ℕ, ◌+◌, ◌≤◌, List, ◌∷◌, ◌++◌, length, drop, sym, ap, ◌∙◌, append_assoc}
 use Rattle.std.proofs.lemmas.List.{append-nil, drop_all}
 use Rattle.book.specs.Meaning.{Meaning}
 use Rattle.working.specs.declared.tally.Tally.{Tally}

@@ -3,7 +3,7 @@
 --     lines_of bs         the lines of bs, in order
 --     open_line b ls      b goes in front of the first line of ls
 --     NoNewline bs i j    no byte from place i up to, and without, place j is a newline
-use Rattle.std.specs.Prelude.{◌≡◌, ℕ, ◌<◌, ◌≤◌, cond, List, [], ◌∷◌, ◌==◌, ◌≢◌, slice_index}
+use Rattle.std.specs.Prelude.{ℕ, ◌<◌, ◌≤◌, cond, List, [], ◌∷◌, ◌==◌, ◌≢◌, slice_index}
 
 abbrev pub newline : ℕ
 newline = 10

@@ -2,7 +2,7 @@
 --     get_d_blank       each place of a blank array holds what it was filled with
 --     blank_rooted      a blank array roots a tree of one term
 --     blank_unpaired    a blank array has no pair
-use Rattle.std.proofs.Common.{◌≡◌, ℕ, zero, suc, ◌<◌, ◌≤◌, get_or, replicate, sym, refl, ap, subst, arith}
+use Rattle.std.proofs.Common.{◌≡◌, ℕ, zero, suc, get_or, replicate, refl, ap, arith}
 use Rattle.plan.specs.Shape.{Rooted, Unpaired}
 
 pub get_d_blank : {X : Type 0} (n i : ℕ) (x : X) → get_or (replicate n x) i x ≡ x

@@ -4,7 +4,7 @@
 --     pair_next       the field behind those of pair q is that of pair q + 1
 --     pair_within     no pair's fields end behind those of the last
 --     pairs_start     the first pair stands behind the last term
-use Rattle.std.proofs.Common.{◌≡◌, ℕ, suc, ◌+◌, ◌-◌, ◌*◌, ◌<◌, ◌≤◌, refl, mul-le-mul_right, add-mul, one-mul, zero-mul, arith}
+use Rattle.std.proofs.Common.{◌≡◌, ℕ, ◌+◌, ◌-◌, ◌*◌, ◌<◌, ◌≤◌, mul-le-mul_right, add-mul, one-mul, zero-mul, arith}
 use Rattle.plan.specs.Layout.{broader_place, pair_place, width_for}
 
 pub broader_next : (n t : ℕ) → 0 < t → broader_place n t + width_for n ≡ broader_place n (t + 1)

@@ -2,7 +2,7 @@
 --     broader_of p t    the broader term of term t, the parent of t in the tree
 --     ends_of p q       the two terms of pair q
 --     IsFresh p         one term, no pair, budget 0
-use Rattle.std.specs.Prelude.{◌≡◌, ℕ, replicate, slice_index, slice_index_or}
+use Rattle.std.specs.Prelude.{◌≡◌, ℕ, slice_index, slice_index_or}
 use Rattle.plan.specs.declared.shape.Plan.{Plan}
 
 abbrev pub broader_of : Plan → ℕ → ℕ

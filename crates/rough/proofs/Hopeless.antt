@@ -1,7 +1,7 @@
 -- A pair with an empty road is separated by no cut.
 --     empty_none      neither leg has a link, so no link is on the road
 --     lowest_empty    the lowest such pair, and that there is no cut
-use Rattle.std.proofs.Common.{◌≡◌, ℕ, true, false, ◌&&◌, ◌||◌, List, [], ◌∷◌, Some, refl, ap, ◌∙◌, arith}
+use Rattle.std.proofs.Common.{◌≡◌, ℕ, true, false, ◌&&◌, ◌||◌, List, [], ◌∷◌, Some, refl, arith}
 use Rattle.std.proofs.lemmas.Bool.{and_parts, both_ways, or_from}
 use Rattle.cuts.specs.Instances.{On, Open}
 use Rattle.plan.specs.Tree.{among}

@@ -2,8 +2,8 @@
 --     all_more, all_whole                 a test of each
 --     pairwise_more, pairwise_whole       a test of any two
 --     pairwise_fails                      two of the front that fail decide
-use Rattle.std.proofs.Common.{◌≡◌, ℕ, zero, suc, ◌+◌, ◌<◌, ◌≤◌, Bool, true, false, ◌&&◌, List, [], ◌∷◌, ◌++◌, length, get_or, take, sym, refl, ap, ◌∙◌, subst, ⊎_elim, add-one, arith}
-use mathlib.Core.Bool.{and_assoc, and_comm, and-true}
+use Rattle.std.proofs.Common.{◌≡◌, ℕ, zero, suc, ◌+◌, ◌<◌, ◌≤◌, Bool, true, false, ◌&&◌, List, [], ◌∷◌, ◌++◌, length, get_or, take, sym, refl, ap, ◌∙◌, ⊎_elim}
+use mathlib.Core.Bool.{and_assoc, and-true}
 use Rattle.std.proofs.lemmas.List.{take_all, take_more}
 use Rattle.std.proofs.lemmas.Bool.{and_from, and_parts, both_ways, cases_Bool}
 use Rattle.cuts.specs.Tests.{all_of, pairwise}

@@ -1,14 +1,14 @@
 -- In an open working, a step that meets its rule is admitted.
-use Rattle.std.proofs.Common.{◌≡◌, ℕ, ◌+◌, Bool, true, false, ◌&&◌, ◌||◌, eqb, leb, List, [], ◌∷◌, length, Ok, sym, refl, ap, ◌∙◌, subst, ⊎_elim, arith}
+use Rattle.std.proofs.Common.{◌≡◌, ℕ, ◌+◌, true, false, ◌&&◌, eqb, leb, List, [], ◌∷◌, length, Ok, sym, refl, subst, ⊎_elim, arith}
 use Rattle.std.proofs.lemmas.Bool.{and_parts, both_ways, eqb-true, leb-true, ne_eqb, not_from_false, or_cases}
 use Rattle.cuts.specs.Instances.{Instance}
 use Rattle.cuts.specs.Steps.{Step, common_factor, disjoint_pairs, dominated_link, dominated_pair, idle_link, is_admitted, overloaded_link, unit_road}
-use Rattle.cuts.specs.Tests.{all_links, all_of, all_pairs, also_on, differ, follows, is_crowd, is_dominated_link, is_link, is_overloaded_link, is_unit_road, never, on_road, pairwise, shares, sole_on}
+use Rattle.cuts.specs.Tests.{all_links, all_of, all_pairs, also_on, differ, follows, is_crowd, is_link, is_overloaded_link, is_unit_road, never, on_road, pairwise, shares, sole_on}
 use Rattle.plan.specs.Tree.{among}
 use Rattle.book.specs.Meaning.{Meaning}
 use Rattle.book.specs.Posed.{posed}
 use Rattle.rules.specs.Faulty.{first_closed, first_repeat}
-use Rattle.working.specs.Judging.{Judgement, is_open, judged}
+use Rattle.working.specs.Judging.{is_open, judged}
 use Rattle.working.specs.Marking.{cut_link, drop_pair, end_none, weld_link}
 use Rattle.working.specs.Rest.{rest}
 use Rattle.working.specs.declared.tally.Tally.{Tally}

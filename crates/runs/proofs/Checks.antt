@@ -2,8 +2,8 @@
 --     check_parts, check_none_parts     a judgement that admits has passed its check
 --     closed_all, all_closed            no listed pair is closed exactly when all are open
 --     repeat_all, all_repeat            none repeats another exactly when all are different
-use Rattle.std.proofs.Common.{◌≡◌, ℕ, Bool, true, false, not, ◌&&◌, ◌||◌, eqb, List, [], ◌∷◌, ◌++◌, Some, None, Ok, Err, Option, sym, refl, ap, ◌∙◌, subst, ⊎_elim, arith}
-use Rattle.std.proofs.lemmas.Bool.{and_from, and_parts, both_ways, cases_Bool, cond-false, cond-true, eq-eqb, eqb-false, eqb-true, not_from_false, not_from_true, not-true, ne_eqb, or_cases, or_left, or_right}
+use Rattle.std.proofs.Common.{◌≡◌, ℕ, Bool, true, false, eqb, List, [], ◌∷◌, ◌++◌, Some, None, Ok, Err, Option, sym, refl, ap, ◌∙◌, subst, ⊎_elim, arith}
+use Rattle.std.proofs.lemmas.Bool.{and_from, and_parts, both_ways, cases_Bool, cond-false, cond-true, eq-eqb, eqb-true, not_from_false, not_from_true, ne_eqb, or_cases, or_left, or_right}
 use Rattle.cuts.specs.Tests.{all_of, differ, pairwise}
 use Rattle.plan.specs.Tree.{among}
 use Rattle.rules.specs.Faulty.{first_closed, first_repeat}

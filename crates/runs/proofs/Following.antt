@@ -1,14 +1,14 @@
 -- A step that is admitted meets its rule, and leaves what the rule leaves.
-use Rattle.std.proofs.Common.{◌≡◌, ℕ, ◌+◌, Bool, true, ◌&&◌, eqb, leb, List, [], ◌∷◌, length, Ok, refl, ap, ◌∙◌, subst, arith}
-use Rattle.std.proofs.lemmas.Bool.{and_from, and_parts, eq-eqb, eqb-false, le-leb, not-true, or_left}
+use Rattle.std.proofs.Common.{◌≡◌, ℕ, ◌+◌, true, ◌&&◌, eqb, leb, List, [], ◌∷◌, length, Ok, refl, subst, arith}
+use Rattle.std.proofs.lemmas.Bool.{and_from, eq-eqb, eqb-false, le-leb, not-true, or_left}
 use Rattle.cuts.specs.Instances.{Instance}
-use Rattle.cuts.specs.Steps.{Admitted, Step, after, common_factor, disjoint_pairs, dominated_link, dominated_pair, idle_link, is_admitted, left_after, overloaded_link, unit_road}
+use Rattle.cuts.specs.Steps.{Step, after, common_factor, disjoint_pairs, dominated_link, dominated_pair, idle_link, is_admitted, left_after, overloaded_link, unit_road}
 use Rattle.cuts.specs.Tests.{all_links, all_of, all_pairs, also_on, differ, follows, is_crowd, is_link, never, on_road, pairwise, shares, sole_on}
 use Rattle.cuts.proofs.Stepping.{step_decided}
 use Rattle.book.specs.Meaning.{Lawful, Meaning}
 use Rattle.book.specs.Posed.{posed}
 use Rattle.rules.specs.Faulty.{first_closed, first_repeat}
-use Rattle.working.specs.Judging.{Judgement, is_open, judged, ruled}
+use Rattle.working.specs.Judging.{Judgement, is_open, judged}
 use Rattle.working.specs.Marking.{cut_link, drop_pair, end_none, weld_link}
 use Rattle.working.specs.Rest.{rest}
 use Rattle.working.specs.declared.tally.Tally.{Tally}

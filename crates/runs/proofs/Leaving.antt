@@ -5,7 +5,7 @@ use mathlib.Core.Bool.{and-true}
 use Rattle.std.proofs.lemmas.List.{length-set}
 use Rattle.cuts.specs.After.{but_for, every, off_road}
 use Rattle.cuts.specs.After as theory
-use Rattle.cuts.specs.Instances.{Instance, Sound}
+use Rattle.cuts.specs.Instances.{Sound}
 use Rattle.book.specs.Meaning.{Lawful, Meaning}
 use Rattle.book.specs.Posed.{lawful_sound, posed}
 use Rattle.book.proofs.Limits.{live_below, open_below}

@@ -4,11 +4,11 @@
 --     marked_but       a marked link, and no other, is not live any more
 --     dropped_but      a dropped pair, and no other, is not open any more
 --     dropped_off      a cut drops the pairs whose roads pass the link, and no others
-use Rattle.std.proofs.Common.{◌≡◌, ℕ, zero, suc, ◌<◌, ◌≤◌, Bool, true, false, not, ◌&&◌, ◌||◌, eqb, ◌≢◌, List, length, get_or, set, sym, refl, ap, ◌∙◌, subst, ⊎_elim, arith}
+use Rattle.std.proofs.Common.{◌≡◌, ℕ, zero, suc, ◌<◌, ◌≤◌, Bool, true, false, not, ◌&&◌, ◌≢◌, List, length, get_or, set, sym, refl, ap, ◌∙◌, ⊎_elim, arith}
 use mathlib.Core.Bool.{and-false, and-true}
 use Rattle.std.proofs.lemmas.List.{get_or-set_other, get_or-set_same, length-set}
 use Rattle.std.proofs.lemmas.Bool.{both_ways, cases_Bool, cases_eq, cond-false, cond-true, eq-eqb, ne_eqb}
-use Rattle.cuts.specs.After.{but_for, every, off_road, remain}
+use Rattle.cuts.specs.After.{but_for, off_road, remain}
 use Rattle.cuts.specs.Instances.{Instance, Sound}
 use Rattle.cuts.proofs.Same.{remain_remain, same_instance}
 use Rattle.book.specs.Meaning.{Meaning}

@@ -2,7 +2,7 @@
 --     Whole t               the arrays of a tally have their 256 places
 --     StepsFollowRules      a step that is admitted meets its rule, and what it leaves is what the rule leaves
 --     RulesAdmitSteps       in an open working a step that meets its rule is admitted
-use Rattle.std.specs.Prelude.{◌≡◌, ℕ, true, length, Ok}
+use Rattle.std.specs.Prelude.{◌≡◌, true, length, Ok}
 use Rattle.cuts.specs.Steps.{Admitted, Step, after, left_after}
 use Rattle.book.specs.Meaning.{Lawful, Meaning}
 use Rattle.book.specs.Posed.{posed}

@@ -4,7 +4,7 @@
 --                        and whether the working has ended as none
 --     reported k s       the step s on a new working with budget k
 --     SampleSteps        some steps and their reports
-use Rattle.std.specs.Prelude.{◌≡◌, ℕ, zero, suc, Bool, true, false, cond, List, [], ◌∷◌, Ok, Err, filter, slice_index, slice_index_or}
+use Rattle.std.specs.Prelude.{◌≡◌, ℕ, List, [], ◌∷◌, Ok, Err, filter, slice_index, slice_index_or}
 use Rattle.std.specs.List.{AllByRecursion}
 use Rattle.cuts.specs.Steps.{Step, disjoint_pairs, dominated_pair, unit_road}
 use Rattle.book.specs.Meaning.{Meaning}

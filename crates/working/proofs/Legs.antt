@@ -6,7 +6,7 @@
 --     kept_first       an unmarked link is the first that is kept from its place on
 --     kept_next        the links kept behind an unmarked one
 --     kept_past        and those behind a marked one
-use Rattle.std.proofs.Common.{◌≡◌, ℕ, zero, suc, ◌+◌, ◌-◌, ◌<◌, ◌≤◌, Bool, true, false, ◌&&◌, List, [], ◌∷◌, drop, Some, None, filter, sym, refl, ap, ◌∙◌, subst, add-one, arith}
+use Rattle.std.proofs.Common.{◌≡◌, ℕ, zero, suc, ◌+◌, Bool, true, false, ◌&&◌, List, [], ◌∷◌, drop, Some, None, filter, sym, refl, ap, ◌∙◌, add-one, arith}
 use mathlib.Core.Bool.{and-true}
 use Rattle.std.specs.List.{slice_get}
 use Rattle.std.proofs.lemmas.Bool.{and_parts, cond-true}

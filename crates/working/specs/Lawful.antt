@@ -2,7 +2,7 @@
 --     leg_rest       a leg of the rest is what the marks keep of the book's leg
 --     rest_on        a link is on a road of the rest where it is on the book's, unmarked, and the pair not dropped
 --     rest_lawful    a book under marks obeys the law of books
-use Rattle.std.specs.Prelude.{◌≡◌, ℕ, ◌≤◌, Bool, true, false, ◌&&◌, ◌||◌, Some, filter, refl}
+use Rattle.std.specs.Prelude.{◌≡◌, ℕ, Bool, true, false, ◌&&◌, ◌||◌, Some, filter, refl}
 use Rattle.std.proofs.Math.Bool.{and_comm, and-false}
 use Rattle.std.proofs.Common.{sym, ap, subst, ◌∙◌}
 use Rattle.std.specs.List.{slice_get}

@@ -1,6 +1,6 @@
 use Rattle.std.proofs.Common.{◌≤◌, length, Some, vec_items, sym, refl, ap, ◌∙◌, subst, rules}
 use Rattle.std.specs.Option.{option_map}
-use Rattle.lines.specs.Calls.{call_judged, step_of, LineOutcome}
+use Rattle.lines.specs.Calls.{call_judged, LineOutcome}
 use Rattle.lines.proofs.Letters.{step_in_lem}
 use Rattle.lines.proofs.calls.run_line.Goals as goal
 

@@ -1,4 +1,4 @@
-use Rattle.std.proofs.Common.{◌≡◌, sym, ap, ◌∙◌, inl}
+use Rattle.std.proofs.Common.{◌≡◌, ap, ◌∙◌, inl}
 use Rattle.std.proofs.lemmas.Result.{IfOk-weaker}
 use Rattle.book.specs.Told.{told}
 use Rattle.working.specs.Marking.{fresh}

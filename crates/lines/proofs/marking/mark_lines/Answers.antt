@@ -1,4 +1,4 @@
-use Rattle.std.proofs.Common.{◌≡◌, ◌+◌, ◌≤◌, ◌∷◌, ◌++◌, length, drop, string_bytes, sym, ap, ◌∙◌, subst, arith}
+use Rattle.std.proofs.Common.{◌≡◌, ◌+◌, ◌≤◌, ◌∷◌, ◌++◌, length, drop, string_bytes, ap, ◌∙◌, subst, arith}
 use Rattle.lines.specs.Calls.{line_judged, tally_after}
 use Rattle.lines.specs.Lines.{lines_of}
 use Rattle.lines.specs.Printed.{line_said}

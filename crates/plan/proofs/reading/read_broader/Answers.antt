@@ -1,7 +1,7 @@
-use Rattle.std.proofs.Common.{◌≡◌, ◌+◌, ◌<◌, ◌≤◌, length, sym, refl, ap, ◌∙◌, arith, rules}
-use Rattle.plan.specs.Layout.{broader_in, broader_place, width_for}
+use Rattle.std.proofs.Common.{◌≡◌, ◌+◌, ◌<◌, length, refl, ap, ◌∙◌, arith}
+use Rattle.plan.specs.Layout.{broader_in}
 use Rattle.plan.proofs.Places.{broader_next, broader_within}
-use Rattle.plan.proofs.Rows.{rooted_from, tree_more, written_more, written_none}
+use Rattle.plan.proofs.Rows.{tree_more, written_more, written_none}
 use Rattle.plan.proofs.reading.read_broader.Goals as goal
 
 pub loop-t-init : goal.loop-t-init

@@ -1,4 +1,4 @@
-use Rattle.std.proofs.Common.{◌≡◌, ◌≤◌}
+use Rattle.std.proofs.Common.{◌≡◌}
 use Rattle.plan.specs.Layout.{broader_in, broader_place, TreeBelow}
 use Rattle.plan.proofs.Rows.{Written}
 use Rattle.plan.proofs.reading.read_broader.Given as goal

@@ -1,4 +1,4 @@
-use Rattle.std.proofs.Common.{◌≡◌, ℕ, ◌+◌, ◌<◌, length, refl, ap, ◌∙◌, subst, arith, rules}
+use Rattle.std.proofs.Common.{◌≡◌, ℕ, ◌+◌, length, refl, ap, ◌∙◌, subst, arith}
 use Rattle.plan.specs.Layout.{ends_in, pair_place, width_for, PairsBelow}
 use Rattle.plan.specs.Shape.{Ordered}
 use Rattle.plan.proofs.Fields.{same_field}

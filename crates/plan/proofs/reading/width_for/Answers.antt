@@ -1,4 +1,4 @@
-use Rattle.std.proofs.Common.{◌^◌, ◌<◌, ◌≤◌, sym, ◌∙◌, arith, rules}
+use Rattle.std.proofs.Common.{◌^◌, ◌<◌, ◌≤◌, sym, ◌∙◌, arith}
 use Rattle.plan.proofs.Widths.{shl_is, width_start, width_here, width_next, width_last}
 use Rattle.plan.proofs.reading.width_for.Goals as goal
 

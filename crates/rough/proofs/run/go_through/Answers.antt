@@ -1,4 +1,4 @@
-use Rattle.std.proofs.Common.{◌≡◌, ◌≤◌, false, length, set, replicate, sym, ap, ◌∙◌, arith, length-set}
+use Rattle.std.proofs.Common.{◌≡◌, false, length, set, replicate, sym, ap, ◌∙◌, arith, length-set}
 use Rattle.cuts.proofs.Counting.{less_in}
 use Rattle.rough.specs.Arrays.{gone_by, held, numbered}
 use Rattle.rough.specs.Order.{earlier, in_order, sorted}

@@ -1,4 +1,4 @@
-use Rattle.std.proofs.Common.{◌≡◌, ◌+◌, ◌<◌, true, false, sym, arith, rules}
+use Rattle.std.proofs.Common.{◌≡◌, ◌<◌, true, false, sym, arith, rules}
 use Rattle.cuts.proofs.Loops.{all_below_fails, all_below_more}
 use Rattle.cuts.specs.Tests.{follows}
 use Rattle.book.specs.Posed.{posed}

@@ -1,4 +1,4 @@
-use Rattle.std.proofs.Common.{◌≡◌, ◌+◌, ◌<◌, true, false, ◌&&◌, sym, ap, ◌∙◌, arith, rules}
+use Rattle.std.proofs.Common.{◌≡◌, ◌+◌, ◌<◌, true, false, arith, rules}
 use Rattle.cuts.specs.Tests.{all_links, sole_on}
 use Rattle.book.specs.Posed.{posed}
 use Rattle.cuts.proofs.Loops.{all_below_fails, all_below_more}

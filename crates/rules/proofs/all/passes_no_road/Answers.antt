@@ -1,4 +1,4 @@
-use Rattle.std.proofs.Common.{◌≡◌, ◌<◌, true, false, not, sym, ap, ◌∙◌, arith}
+use Rattle.std.proofs.Common.{◌<◌, not, sym, ap, arith}
 use Rattle.cuts.specs.After.{off_road}
 use Rattle.book.specs.Posed.{posed}
 use Rattle.cuts.proofs.Loops.{all_below_fails, all_below_more}

@@ -1,4 +1,4 @@
-use Rattle.std.proofs.Common.{◌≡◌, ◌+◌, length, ap, subst, arith}
+use Rattle.std.proofs.Common.{◌≡◌, length, ap, arith}
 use Rattle.plan.specs.Plans.{broader_of}
 use Rattle.plan.specs.Tree.{way}
 use Rattle.plan.proofs.Climbs.{depth_climb, plan_falls}

@@ -1,4 +1,4 @@
-use Rattle.std.proofs.Common.{◌≡◌, ◌<◌, sym, ap, ◌∙◌, arith}
+use Rattle.std.proofs.Common.{◌<◌, sym, ap, ◌∙◌, arith}
 use Rattle.plan.specs.Plans.{broader_of}
 use Rattle.plan.specs.Tree.{rank}
 use Rattle.plan.proofs.Climbs.{plan_falls}

@@ -1,4 +1,4 @@
-use Rattle.std.proofs.Common.{◌+◌, ◌++◌, ap, ◌∙◌, arith}
+use Rattle.std.proofs.Common.{◌++◌, ap, ◌∙◌, arith}
 use Rattle.plan.specs.Packed.{number_bits}
 use Rattle.plan.proofs.Digits.{length_bits}
 use Rattle.plan.proofs.FieldLists.{head_bits}

@@ -1,4 +1,4 @@
-use Rattle.std.proofs.Common.{◌≡◌, true, set, sym, ap, ◌∙◌}
+use Rattle.std.proofs.Common.{true, set, sym, ap, ◌∙◌}
 use Rattle.book.specs.Posed.{posed}
 use Rattle.working.specs.Rest.{rest}
 use Rattle.working.proofs.Drops.{drop_more, drop_past}
