@@ -6,6 +6,7 @@ mod tests {
     use book::{RoadBook, Sheet};
     use lines::mark;
     use plan::Plan;
+    use rough::RoughFault;
     use std::alloc::Global;
     use std::process::Abort;
     use std::test::Fail;
@@ -168,5 +169,28 @@ mod tests {
         assert!(rt; !trial.is_live(3) && !trial.is_open(0) && trial.is_open(1));
         assert!(rt; !trial.is_live(1) && working.is_live(1));
         assert_eq!(rt; trial.left(), 1);
+    }
+
+    // A rough cut is given before and after steps, and in a working that has ended, and leaves all as it was.
+    #[test]
+    fn rough_cuts_of_rests(rt: HostRuntime) {
+        let mut plan = Plan::fresh();
+        assert!(rt; plan.read(SAMPLE).is_ok());
+        let sheet = Sheet::new(&plan);
+        let mut links = [9; 5];
+        let mut apart = [9; 3];
+        let mut working = Working::lay(&sheet, 2);
+        assert!(rt; working.rough(&mut links, &mut apart) == Ok((4, 2)));
+        assert!(rt; working.step(unit_road(3, 3)).is_ok());
+        assert!(rt; working.rough(&mut links, &mut apart) == Ok((2, 1)));
+        assert_eq!(rt; links, [5, 6, 5, 6, 9]);
+        assert_eq!(rt; apart, [2, 2, 9]);
+        let mut narrow = [9; 1];
+        assert!(rt; working.rough(&mut narrow, &mut apart) == Err(RoughFault::LinksBuffer(2)));
+        assert_eq!(rt; narrow, [9]);
+        let mut ended = Working::lay(&sheet, 1);
+        assert!(rt; ended.step(Step::DisjointPairs(&[2, 3])).is_ok());
+        assert!(rt; ended.rough(&mut links, &mut apart) == Ok((4, 2)));
+        assert_eq!(rt; working.left(), 1);
     }
 }

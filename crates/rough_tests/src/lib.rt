@@ -1,10 +1,10 @@
-// Tests of the rough cut over the climbing book.
+// Tests of the rough cut over the climbing book and the sheet.
 
 #![tactic(auto)]
 
 #[cfg(test)]
 mod tests {
-    use book::ClimbingBook;
+    use book::{ClimbingBook, Sheet};
     use plan::Plan;
     use rough::{RoughFault, rough, sample_counts};
 
@@ -50,5 +50,20 @@ mod tests {
         assert!(rt; rough(&book, &mut links, &mut apart) == Err(RoughFault::PairsBuffer(2)));
         assert_eq!(rt; links, [9; 4]);
         assert_eq!(rt; apart, [9]);
+    }
+
+    #[test]
+    fn both_books_are_cut_alike(rt: HostRuntime) {
+        let mut plan = Plan::fresh();
+        assert!(rt; plan.read(&SAMPLE).is_ok());
+        let mut links = [9; 6];
+        let mut apart = [9; 3];
+        assert!(rt; rough(&Sheet::new(&plan), &mut links, &mut apart) == Ok((4, 2)));
+        assert_eq!(rt; links, [3, 4, 5, 6, 9, 9]);
+        assert_eq!(rt; apart, [0, 2, 9]);
+        assert!(rt; plan.read(&TIED).is_ok());
+        assert!(rt; rough(&Sheet::new(&plan), &mut links, &mut apart) == Ok((2, 1)));
+        assert_eq!(rt; links, [1, 2, 5, 6, 9, 9]);
+        assert_eq!(rt; apart, [0, 2, 9]);
     }
 }
