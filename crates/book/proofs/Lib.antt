@@ -1,3 +1,4 @@
+pub mod Arrays
 pub mod Found
 pub mod Limits
 pub mod Picks

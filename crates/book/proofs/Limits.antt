@@ -3,12 +3,11 @@
 --     different_fits            different numbers from 1 to h are at most h many
 --     rank_low                  no rank is over 255
 --     leg_short                 so no leg has more than 255 links
-use Rattle.std.proofs.Common.{◌≡◌, ℕ, zero, suc, ◌<◌, ◌≤◌, Bool, true, not, eqb, List, [], ◌∷◌, length, Some, filter, sym, refl, ap, ◌∙◌, ⊎_elim, arith}
-use Rattle.std.specs.List.{slice_get}
-use Rattle.std.proofs.lemmas.Bool.{and_parts, cases_Bool, cases_eq, cond-false, cond-true, eq-eqb, eqb-false, ne_eqb, not_from_false, not_from_true, not-true}
-use Rattle.plan.proofs.Members.{at_among}
-use Rattle.plan.specs.Tree.{among}
-use Rattle.book.specs.Kept.{among_kept, different_rest, keeps, kept_at, kept_different, passes_over}
+use Rattle.std.proofs.Common.{◌≡◌, ℕ, suc, ◌<◌, ◌≤◌, true, false, eqb, List, [], ◌∷◌, length, Some, sym, refl, ap, ⊎_elim, arith}
+use Rattle.std.specs.List.{AllByRecursion, IsDistinct, list_any, slice_get}
+use Rattle.std.proofs.lemmas.Map.Keys.{IsDistinct-cons}
+use Rattle.std.proofs.lemmas.Map.Steps.{length-le_from_distinct_below}
+use Rattle.std.proofs.lemmas.Bool.{eqb-true, or_cases, cases_Bool, cond-false, cond-true, ne_eqb}
 use Rattle.book.specs.Meaning.{Different, Lawful, Meaning, leg_of, rank_at}
 use Rattle.book.specs.declared.leg.Leg.{Leg}
 
@@ -18,45 +17,33 @@ live_below m law l e = omega (arith, (law.live_in l e).1, law.few_links)
 pub open_below : (m : Meaning) → Lawful m → (p : ℕ) → m.opened p ≡ true → p < 256
 open_below m law p e = omega (arith, law.opened_in p e, law.few_pairs)
 
--- any number but v
-abbrev other : ℕ → ℕ → Bool
-other v x = not (eqb x v)
+differ_from : (x : ℕ) (xs : List ℕ) → ((k : ℕ) → slice_get xs k ≡ Some x → ⊥) → AllByRecursion (λ y. eqb x y ≡ false) xs
+differ_from x [] apart = tt
+differ_from x (y ∷ ys) apart = (ne_eqb x y (λ e. apart 0 (ap Some (sym e))), differ_from x ys (λ k. apart (suc k)))
 
-other_than : (v x : ℕ) → (x ≡ v → ⊥) → other v x ≡ true
-other_than v x ne = not_from_false (eqb x v) (ne_eqb x v ne)
+distinct : (xs : List ℕ) → Different xs → IsDistinct eqb xs
+unfolding IsDistinct
+distinct [] d = tt
+distinct (x ∷ xs) d = (
+  differ_from x xs (λ k h. let z : 0 ≡ suc k = d 0 (suc k) x refl h in omega arith),
+  distinct xs (λ i j y p q. let h : suc i ≡ suc j = d (suc i) (suc j) y p q in omega arith),
+)
 
-all_kept : (v : ℕ) (xs : List ℕ) → ((k : ℕ) → slice_get xs k ≡ Some v → ⊥) → length (filter (other v) xs) ≡ length xs
-all_kept v [] apart = refl
-all_kept v (x ∷ xs) apart =
-    ap length (keeps (other v) x xs (other_than v x (λ e. apart 0 (ap Some e)))) ∙ ap suc (all_kept v xs (λ k. apart (suc k)))
+any_at : (x : ℕ) (xs : List ℕ) → list_any (eqb x) xs ≡ true → (k : ℕ) × (slice_get xs k ≡ Some x)
+any_at x [] e = absurd (cc)
+any_at x (y ∷ ys) e =
+    ⊎_elim (λ h. (0, ap Some (sym (eqb-true x y h)))) (λ h. let r = any_at x ys h in (suc r.0, r.1)) (or_cases (eqb x y) (list_any (eqb x) ys) e)
 
-one_less : (v : ℕ) (xs : List ℕ) → Different xs → length xs ≤ suc (length (filter (other v) xs))
-one_less v [] d = omega arith
-one_less v (x ∷ xs) d =
-    ⊎_elim
-    (λ e.
-    let gone = ap length (passes_over (other v) x xs (not_from_true (eqb x v) (eq-eqb x v e))) in
-    let all = all_kept v xs (λ k h. let z : 0 ≡ suc k = d 0 (suc k) v (ap Some e) h in omega arith) in
-    omega (arith, gone, all))
-    (λ ne.
-    let here = ap length (keeps (other v) x xs (other_than v x ne)) in
-    let more = one_less v xs (different_rest (other v) x xs d) in
-    omega (arith, here, more))
-    (cases_eq x v)
-
+-- with 0 before them, they are below h + 1
 pub different_fits : (h : ℕ) (xs : List ℕ) → Different xs → ((k x : ℕ) → slice_get xs k ≡ Some x → (0 < x) × (x ≤ h)) → length xs ≤ h
-different_fits zero [] d bounds = omega arith
-different_fits zero (x ∷ xs) d bounds = let b = bounds 0 x refl in omega (arith, b.0, b.1)
-different_fits (suc h) xs d bounds =
-    let f = other (suc h) in
-    let ys = filter f xs in
-    let fewer : length ys ≤ h = different_fits h ys (kept_different f xs d) (λ k x e.
-    let below = kept_at f xs k x e in
-    let b = bounds below.0 x below.1 in
-    let passes = (and_parts (f x) (among x xs) (sym (among_kept f x xs) ∙ at_among x ys k e)).0 in
-    let ne = eqb-false x (suc h) (not-true (eqb x (suc h)) passes) in
-    (b.0, omega (arith, b.1, ne))) in
-    omega (arith, one_less (suc h) xs d)
+different_fits h xs d bounds =
+    let apart = differ_from 0 xs (λ k e. omega (arith, (bounds k 0 e).0)) in
+    let below : (x : ℕ) → list_any (eqb x) (0 ∷ xs) ≡ true → x < suc h = λ x e.
+    ⊎_elim
+    (λ z. omega (arith, eqb-true x 0 z))
+    (λ more. let r = any_at x xs more in omega (arith, (bounds r.0 x r.1).1))
+    (or_cases (eqb x 0) (list_any (eqb x) xs) e) in
+    omega (arith, length-le_from_distinct_below (0 ∷ xs) (suc h) (IsDistinct-cons eqb 0 xs apart (distinct xs d)) below)
 
 pub leg_short : (m : Meaning) → Lawful m → (s : Leg) (p : ℕ) → m.opened p ≡ true → length (leg_of m s p) ≤ 255
 leg_short m law s p e =

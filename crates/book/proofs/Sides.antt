@@ -4,7 +4,7 @@
 --     leg_picked      so what is picked by that test is what stands on the leg
 --     leg_tested      a link passes the test of a leg exactly when it is on it
 use Rattle.std.proofs.Common.{◌≡◌, ℕ, suc, ◌+◌, ◌<◌, true, not, ◌&&◌, ◌||◌, ltb, length, Some, None, sym, ap, ◌∙◌, ⊎_elim, arith}
-use Rattle.std.specs.List.{slice_get}
+use Rattle.std.specs.List.{filter, range_with_len, slice_get}
 use Rattle.std.proofs.lemmas.List.{length_push}
 use Rattle.std.proofs.lemmas.Bool.{and_from, and_parts, and_right, both_ways, cond-true, not_from_false, not-true, or_cases, or_left, or_right}
 use Rattle.plan.specs.Plans.{broader_of, ends_of}
@@ -15,11 +15,11 @@ use Rattle.plan.proofs.Members.{among_at, at_drop, at_push, at_take}
 use Rattle.plan.proofs.Roads.{leg_above, leg_bounds, same_tests}
 use Rattle.plan.proofs.Ways.{depth_at, way_bounds, way_front, way_more}
 use Rattle.book.specs.Meaning.{leg_of, link_at, on_road}
-use Rattle.book.specs.Sheets.{first_test, leg_test, pick}
+use Rattle.book.specs.Sheets.{first_test, leg_test}
 use Rattle.book.specs.Told.{ends_in_lem, told, told_live_legs}
 use Rattle.book.specs.declared.leg.Leg.{Leg}
 use Rattle.book.specs.declared.leg.Leg.TheVariants.{First, Second}
-use Rattle.book.proofs.Picks.{Rising, pick_rising, rising_from}
+use Rattle.book.proofs.Picks.{Rising, filter_rising, rising_from}
 
 pub way_rises : (up : ℕ → ℕ) → Falls up → (t i j x y : ℕ) → i < j → slice_get (way up t) i ≡ Some x → slice_get (way up t) j ≡ Some y → x < y
 way_rises up falls t i j x y h e f =
@@ -86,8 +86,8 @@ module _ (p : Plan) (q : ℕ) (open' : ltb q p.pairs ≡ true) where
       (or_cases (among l ((told p).first q)) (among l ((told p).second q)) (sides l h.0)))
       (λ e. and_from on (not (first_test p q l)) (on_second l e) (not_from_false (first_test p q l) (and_right on above (leg_above up (plan_falls p) b a l e).1)))
 
--- what is picked by the test of a leg is what stands on it
-pub leg_picked : (p : Plan) (s : Leg) (q k : ℕ) → true ≡ (told p).opened q → pick (leg_test p s q) 256 0 k ≡ link_at (told p) s q k
+-- the links that pass the test of a leg, in order, are those that stand on it
+pub leg_picked : (p : Plan) (s : Leg) (q k : ℕ) → true ≡ (told p).opened q → slice_get (filter (leg_test p s q) (range_with_len 0 256)) k ≡ link_at (told p) s q k
 leg_picked p s q k open' =
-    pick_rising (leg_test p s q) 256 (leg_of (told p) s q) (legs_rise p q (sym open') s) (leg_tested p q (sym open') s) k ∙
+    ap (λ xs. slice_get xs k) (filter_rising (leg_test p s q) 256 0 256 (leg_of (told p) s q) (legs_rise p q (sym open') s) (omega arith) (λ l _. leg_tested p q (sym open') s l)) ∙
     sym (cond-true ((told p).opened q) (slice_get (leg_of (told p) s q) k) None (sym open'))

@@ -2,14 +2,14 @@
 --     bit_in ws q l       the bit of pair q and link l
 --     bits_from f l n     the word whose n lowest bits are f of l, l + 1, ..
 --     word_of f k         word k of the table that f fills
+--     Computes r f        each answer of a closure to a pair and a link below 256 is f of them
 --     Filled f ws         ws is that table
 --     road_test p q l     link l is on the road of pair q of the plan p
 --     first_test p q l    and on its first leg
---     table_test p t      the test that fills a table
---     pick g n l k        the k-th of the numbers that pass a test
 --     leg_test p s q l    link l is on a leg of pair q
 --     Ranked p rs         rs has the ranks of the plan's pairs, and 0 behind them
-use Rattle.std.specs.Prelude.{◌≡◌, ℕ, zero, suc, ◌+◌, ◌*◌, ◌/◌, ◌%◌, ◌^◌, ◌<◌, Bool, true, false, cond, not, ◌&&◌, List, Some, None, Option, slice_index}
+use Rattle.std.specs.Prelude.{◌≡◌, ℕ, zero, suc, ◌+◌, ◌*◌, ◌/◌, ◌%◌, ◌^◌, ◌<◌, Bool, not, ◌&&◌, List, slice_index}
+use Rattle.std.specs.Int.{from_bool}
 use Rattle.plan.specs.Plans.{broader_of, ends_of}
 use Rattle.plan.specs.Tree.{among, way}
 use Rattle.plan.specs.declared.shape.Plan.{Plan}
@@ -17,22 +17,20 @@ use Rattle.book.specs.Meaning.{on_road, rank_at}
 use Rattle.book.specs.Told.{told}
 use Rattle.book.specs.declared.leg.Leg.{Leg}
 use Rattle.book.specs.declared.leg.Leg.TheVariants.{First, Second}
-use Rattle.book.specs.declared.table.Table.{Table}
-use Rattle.book.specs.declared.table.Table.TheVariants.{Firsts, Roads}
-
-abbrev pub bit_of : Bool → ℕ
-bit_of true = 1
-bit_of false = 0
 
 abbrev pub bit_in : List ℕ → ℕ → ℕ → ℕ
 bit_in ws q l = slice_index ws (q * 4 + l / 64) / 2 ^ (l % 64) % 2
 
 unfoldable pub bits_from : (ℕ → Bool) → ℕ → ℕ → ℕ
 bits_from f l zero = 0
-bits_from f l (suc n) = bits_from f (l + 1) n * 2 + bit_of (f l)
+bits_from f l (suc n) = bits_from f (l + 1) n * 2 + from_bool (f l)
 
 abbrev pub word_of : (ℕ → ℕ → Bool) → ℕ → ℕ
 word_of f k = bits_from (f (k / 4)) (k % 4 * 64) 64
+
+-- each answer of a closure at numbers below 256 is f of the numbers
+abbrev pub Computes : (ℕ → ℕ → Bool → Type 0) → (ℕ → ℕ → Bool) → Type 0
+Computes answers f = (q l : ℕ) (b : Bool) → q < 256 → l < 256 → answers q l b → b ≡ f q l
 
 abbrev pub Filled : (ℕ → ℕ → Bool) → List ℕ → Type 0
 Filled f ws = (k : ℕ) → k < 1024 → slice_index ws k ≡ word_of f k
@@ -45,16 +43,6 @@ first_test p q l = on_road (told p) l q && among l (way (broader_of p) (ends_of 
 
 abbrev pub Ranked : Plan → List ℕ → Type 0
 Ranked p rs = (q : ℕ) → q < 256 → slice_index rs q ≡ rank_at (told p) q
-
-abbrev pub table_test : Plan → Table → ℕ → ℕ → Bool
-table_test p Roads = road_test p
-table_test p Firsts = first_test p
-
--- of the n numbers from l on that pass the test g, the one at place k
-unfoldable pub pick : (ℕ → Bool) → ℕ → ℕ → ℕ → Option ℕ
-pick g zero l k = None
-pick g (suc n) l zero = cond (g l) (Some l) (pick g n (l + 1) zero)
-pick g (suc n) l (suc k) = cond (g l) (pick g n (l + 1) k) (pick g n (l + 1) (suc k))
 
 -- a link of a leg, by the tables' tests
 abbrev pub leg_test : Plan → Leg → ℕ → ℕ → Bool

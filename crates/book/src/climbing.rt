@@ -14,6 +14,7 @@ pub struct ClimbingBook<'a> {
 
 impl<'a> ClimbingBook<'a> {
     // A book that tells the plan.
+    #[tactic(auto, using(crate::proofs::Telling::told_tells))]
     pub fn new(plan: &'a Plan) -> Self
         ensures keeps { result.plan.now ≡ plan.now }
         ensures tells { Tells (told result.plan.now) plan.now }
@@ -52,11 +53,9 @@ impl<'a> RoadBook for ClimbingBook<'a> {
     }
 
     // A link is on the road between two terms exactly when it lies above one of them alone.
+    #[tactic(auto, using(crate::proofs::Found::on_told))]
     fn on_road(&self, link: u16, pair: u16) -> bool {
-        if !self.is_live(link) {
-            return false;
-        }
-        if !self.is_open(pair) {
+        if !self.is_live(link) || !self.is_open(pair) {
             return false;
         }
         let (first, second) = self.plan.ends(pair);
@@ -64,6 +63,7 @@ impl<'a> RoadBook for ClimbingBook<'a> {
     }
 
     // A leg is the way to one of the two terms, from the turning term on.
+    #[tactic(auto, using(crate::proofs::Found::first_told, crate::proofs::Found::second_told))]
     fn link_at(&self, pair: u16, leg: Leg, place: u16) -> Option<u16> {
         if !self.is_open(pair) {
             return None;

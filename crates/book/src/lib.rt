@@ -8,7 +8,6 @@ mod promises;
 mod road_book;
 mod sheet;
 mod sheet_roads;
-mod table;
 
 pub use climbing::ClimbingBook;
 pub use leg::Leg;

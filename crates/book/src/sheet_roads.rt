@@ -1,6 +1,6 @@
 // The sheet as a road-book.
-ghost use Rattle.std.specs.Prelude.{◌≡◌, ◌<◌, ◌==◌};
-ghost use Rattle.book.specs.Sheets.{bit_in, first_test, leg_test, road_test};
+ghost use Rattle.std.specs.Prelude.{◌≡◌, ◌==◌};
+ghost use Rattle.book.specs.Sheets.{bit_in, first_test, leg_test};
 ghost use Rattle.book.specs.Tells.{Tells};
 ghost use Rattle.book.specs.Told.{told, told_lawful};
 
@@ -9,12 +9,10 @@ use crate::filling::{fill, fill_ranks};
 use crate::leg::Leg;
 use crate::road_book::RoadBook;
 use crate::sheet::Sheet;
-use crate::table::Table;
 use plan::Plan;
 
 // Whether the bit of a pair and a link is set: one word and one bit.
-fn is_set(words: &[u64; 1024], pair: u16, link: u16) -> bool
-    requires { (pair < 256) × (link < 256) }
+fn is_set(words: &[u64; 1024], pair: u8, link: u8) -> bool
     ensures { result ≡ (bit_in words.now pair link == 1) }
 {
     (words[pair as usize * 4 + link as usize / 64] >> (link % 64)) % 2 == 1
@@ -29,33 +27,30 @@ impl Sheet {
         let book = ClimbingBook::new(plan);
         Sheet {
             plan: *plan,
-            roads: fill(&book, Table::Roads),
-            firsts: fill(&book, Table::Firsts),
+            roads: fill(|pair, link| book.on_road(link, pair)),
+            firsts: fill(|pair, link| {
+                book.on_road(link, pair) && plan.is_above(link, plan.ends(pair).0)
+            }),
             ranks: fill_ranks(&book),
         }
     }
 
-    fn is_on(&self, pair: u16, link: u16) -> bool
-        requires { (pair < 256) × (link < 256) }
-        ensures { result ≡ road_test self.now.plan pair link }
+    // The climbing book of the same plan.
+    fn climbing(&self) -> ClimbingBook<'_>
+        ensures { result.plan.now ≡ self.now.plan }
     {
-        is_set(&self.roads, pair, link)
+        ClimbingBook { plan: &self.plan }
     }
 
-    fn is_on_first(&self, pair: u16, link: u16) -> bool
-        requires { (pair < 256) × (link < 256) }
-        ensures { result ≡ first_test self.now.plan pair link }
-    {
-        is_set(&self.firsts, pair, link)
-    }
-
-    fn is_on_leg(&self, pair: u16, leg: Leg, link: u16) -> bool
-        requires { (pair < 256) × (link < 256) }
+    // Whether a link is on a leg of a pair: a link of the road that is not on the first leg is on the second.
+    #[tactic(auto, using(crate::proofs::Words::road_set, crate::proofs::Words::first_set))]
+    fn is_on_leg(&self, pair: u8, leg: Leg, link: u8) -> bool
         ensures { result ≡ leg_test self.now.plan leg pair link }
     {
+        let on_first = is_set(&self.firsts, pair, link);
         match leg {
-            Leg::First => self.is_on_first(pair, link),
-            Leg::Second => self.is_on(pair, link) && !self.is_on_first(pair, link),
+            Leg::First => on_first,
+            Leg::Second => is_set(&self.roads, pair, link) && !on_first,
         }
     }
 }
@@ -66,19 +61,19 @@ impl RoadBook for Sheet {
     ghost lawful = { λ b. told_lawful b.plan };
 
     fn highest(&self) -> u16 {
-        self.plan.terms() - 1
+        self.climbing().highest()
     }
 
     fn pairs(&self) -> u16 {
-        self.plan.pairs()
+        self.climbing().pairs()
     }
 
     fn is_live(&self, link: u16) -> bool {
-        0 < link && link < self.plan.terms()
+        self.climbing().is_live(link)
     }
 
     fn is_open(&self, pair: u16) -> bool {
-        pair < self.pairs()
+        self.climbing().is_open(pair)
     }
 
     fn rank(&self, pair: u16) -> u16 {
@@ -88,14 +83,9 @@ impl RoadBook for Sheet {
         u16::from(self.ranks[pair as usize])
     }
 
+    #[tactic(auto, using(crate::proofs::Words::road_set))]
     fn on_road(&self, link: u16, pair: u16) -> bool {
-        if !self.is_live(link) {
-            return false;
-        }
-        if !self.is_open(pair) {
-            return false;
-        }
-        self.is_on(pair, link)
+        self.is_live(link) && self.is_open(pair) && is_set(&self.roads, pair as u8, link as u8)
     }
 
     // The links of a leg rise, so they are found by going through the pair's row.
@@ -103,15 +93,8 @@ impl RoadBook for Sheet {
         if !self.is_open(pair) {
             return None;
         }
-        let mut passed = 0;
-        for link in 0..256 {
-            if self.is_on_leg(pair, leg, link) {
-                if passed == place {
-                    return Some(link);
-                }
-                passed += 1;
-            }
-        }
-        None
+        (0..256)
+            .filter(|link| self.is_on_leg(pair as u8, leg, *link as u8))
+            .nth(usize::from(place))
     }
 }

@@ -9,9 +9,9 @@
 --     less_from      a link of s other than l is in s without l
 --     less_in        a link of s without l is in s
 --     less_other     and is not l
-use Rattle.std.proofs.Common.{◌≡◌, ℕ, zero, suc, ◌+◌, ◌<◌, ◌≤◌, Bool, true, false, cond, not, ◌&&◌, ◌||◌, eqb, ◌≢◌, refl, ap, ◌∙◌, ⊎_elim, zero-le, arith}
-use mathlib.Core.Bool.{and-not_self, and-true}
-use Rattle.std.proofs.lemmas.Bool.{false≢true, true≢false, and_from, and_parts, and_right, both_ways, cases_eq, cond-false, cond-true, eq-eqb, ne_eqb, not_from_false, not_from_true, not-true}
+use Rattle.std.proofs.Common.{◌≡◌, ℕ, zero, suc, ◌+◌, ◌<◌, ◌≤◌, Bool, true, false, cond, not, ◌||◌, eqb, ◌≢◌, refl, ap, ◌∙◌, ⊎_elim, zero-le, arith}
+use mathlib.Core.Bool.{and-not_self}
+use Rattle.std.proofs.lemmas.Bool.{and_from, and_parts, and_right, both_ways, cases_eq, cond-false, cond-true, eq-eqb, ne_eqb, not_from_false, not_from_true, not-true}
 use Rattle.cuts.specs.Links.{Links, In, Outside, count, less, one, union}
 
 pub less_from : (s : Links) (l x : ℕ) → In s x → x ≢ l → In (less s l) x
@@ -25,30 +25,19 @@ less_other s l x h e = both_ways (eqb x l) (not-true (eqb x l) (and_parts (s x) 
 
 -- one more number, which is in the set or not
 more_le : (a b : Bool) (m n : ℕ) → (a ≡ true → b ≡ true) → m ≤ n → cond a (m + 1) m ≤ cond b (n + 1) n
-more_le true true m n h le = omega arith
-more_le true false m n h le = absurd (false≢true (h refl))
-more_le false true m n h le = omega arith
-more_le false false m n h le = omega arith
+more_le a b m n h le = grind arith
 
 more_bounded : (a : Bool) (m n : ℕ) → m ≤ n → cond a (m + 1) m ≤ suc n
-more_bounded true m n le = omega arith
-more_bounded false m n le = omega arith
+more_bounded a m n le = grind arith
 
 more_or : (a b : Bool) (k m n : ℕ) → k ≤ m + n → cond (a || b) (k + 1) k ≤ cond a (m + 1) m + cond b (n + 1) n
-more_or true true k m n le = omega arith
-more_or true false k m n le = omega arith
-more_or false true k m n le = omega arith
-more_or false false k m n le = omega arith
+more_or a b k m n le = grind arith
 
 more_apart : (a b : Bool) (k m n : ℕ) → (a ≡ true → b ≡ false) → k ≡ m + n → cond (a || b) (k + 1) k ≡ cond a (m + 1) m + cond b (n + 1) n
-more_apart true true k m n h e = absurd (true≢false (h refl))
-more_apart true false k m n h e = omega arith
-more_apart false true k m n h e = omega arith
-more_apart false false k m n h e = omega arith
+more_apart a b k m n h e = grind arith
 
 more_one : (a : Bool) (m n : ℕ) → m ≡ 1 + n → cond a (m + 1) m ≡ 1 + cond a (n + 1) n
-more_one true m n e = omega arith
-more_one false m n e = omega arith
+more_one a m n e = grind arith
 
 pub count_le : (s t : Links) → ((x : ℕ) → In s x → In t x) → (n : ℕ) → count s n ≤ count t n
 count_le s t h zero = zero-le
@@ -73,9 +62,7 @@ count_apart s t h (suc n) =
 
 -- below l nothing is taken out; at l the link is; above l all is as before
 less_same : (s : Links) (l x : ℕ) → x ≢ l → less s l x ≡ s x
-less_same s l x ne =
-    let kept : not (eqb x l) ≡ true = not_from_false (eqb x l) (ne_eqb x l ne) in
-    ap (λ b. s x && b) kept ∙ and-true (s x)
+less_same s l x ne = grind arith
 
 less_out : (s : Links) (l x : ℕ) → x ≡ l → less s l x ≡ false
 less_out s l x e = and_right (s x) (not (eqb x l)) (not_from_true (eqb x l) (eq-eqb x l e))

@@ -2,26 +2,16 @@
 --     drawn_sound          an instance that is written out is sound
 --     found, not_found     there is a cut within k, or none, as the search says
 --     one_needed           the fewest is 1 if there is a cut of one link and none of no link
-use Rattle.std.proofs.Common.{◌≡◌, ℕ, true, false, ◌&&◌, ltb, leb, List, [], length, get_or}
-use Rattle.std.proofs.lemmas.Bool.{and_parts, leb-true, ltb-true}
+use Rattle.std.proofs.Common.{◌≡◌, ℕ, true, false, List, arith}
 use Rattle.std.proofs.lemmas.Bool.Decides.{not_from_Decides}
 use Rattle.cuts.proofs.LeastCut.{fewest_above}
 use Rattle.cuts.proofs.Searching.{has_cut_decided}
-use Rattle.cuts.specs.Drawn.{drawn, listed, up_to}
-use Rattle.cuts.specs.Instances.{Instance, On, Sound, Fewest, HasCut}
+use Rattle.cuts.specs.Drawn.{drawn}
+use Rattle.cuts.specs.Instances.{Instance, Sound, Fewest, HasCut}
 use Rattle.cuts.specs.Search.{has_cut}
 
 pub drawn_sound : (n : ℕ) (roads : List (List ℕ)) → Sound (drawn n roads)
-drawn_sound n roads =
-    let both : (x p : ℕ) → On (drawn n roads) x p → (up_to n x ≡ true) × (ltb p (length roads) ≡ true) = λ x p h.
-    and_parts (up_to n x) (ltb p (length roads)) (and_parts (up_to n x && ltb p (length roads)) (listed (get_or roads p []) x) h).0 in
-    record {
-      from_one = λ l h. leb-true 1 l (and_parts (leb 1 l) (leb l n) h).0;
-      to_highest = λ l h. leb-true l n (and_parts (leb 1 l) (leb l n) h).1;
-      numbered = λ p h. ltb-true p (length roads) h;
-      on_live = λ l p h. (both l p h).0;
-      on_open = λ l p h. (both l p h).1;
-    }
+drawn_sound n roads = grind arith
 
 module _ (i : Instance) (ok : Sound i) where
   pub found : (k : ℕ) → has_cut i k ≡ true → HasCut i k

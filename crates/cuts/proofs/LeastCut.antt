@@ -5,19 +5,15 @@
 --     fewest_above     a cut within k + 1 and none within k make k + 1 the fewest
 --     no_fewest        where not even all links make a cut there is no fewest
 use Rattle.std.proofs.Common.{◌≡◌, ℕ, zero, suc, ◌≤◌, ⊎_elim, zero-le, arith}
-use Rattle.std.proofs.lemmas.Bool.{cases_Bool, cases_lt}
+use Rattle.std.proofs.lemmas.Bool.{cases_Bool}
 use Rattle.std.proofs.lemmas.Bool.Decides.{not_from_Decides}
 use Rattle.cuts.proofs.Counting.{count_bounded}
 use Rattle.cuts.proofs.Searching.{has_cut_decided}
-use Rattle.cuts.specs.Instances.{Instance, Sound, Cut, HasCut, Fewest, size}
-use Rattle.cuts.specs.Links.{Links}
+use Rattle.cuts.specs.Instances.{Instance, Sound, HasCut, Fewest}
 use Rattle.cuts.specs.Search.{has_cut}
 
 pub fewest_above : (i : Instance) (k : ℕ) → HasCut i (suc k) → (HasCut i k → ⊥) → Fewest i (suc k)
-fewest_above i k (s, w) lacks =
-    let above : (t : Links) → Cut i t → suc k ≤ size i t =
-    λ t cut. ⊎_elim (λ h. h) (λ h. absurd (lacks (t, record { cut = cut; small = h }))) (cases_lt k (size i t)) in
-    record { attained = (s, w.cut, omega (arith, w.small, above s w.cut)); least = above }
+fewest_above i k has lacks = grind arith
 
 pub fewest_zero : (i : Instance) → HasCut i 0 → Fewest i 0
 fewest_zero i (s, w) = record { attained = (s, w.cut, omega (arith, w.small)); least = λ t cut. zero-le }
@@ -36,7 +32,4 @@ fewest_found i ok (suc k) has =
     (cases_Bool (has_cut i k))
 
 pub fewest_unique : (i : Instance) (m n : ℕ) → Fewest i m → Fewest i n → m ≡ n
-fewest_unique i m n a b =
-    let (s, s-cut, s-size) = a.attained in
-    let (t, t-cut, t-size) = b.attained in
-    omega (arith, a.least t t-cut, b.least s s-cut)
+fewest_unique i m n a b = grind arith

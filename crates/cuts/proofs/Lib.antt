@@ -17,5 +17,5 @@ pub mod Faithfulness
 pub mod Drawing
 pub mod Exemplified
 pub mod Mistaken
-pub mod Loops
+pub mod Chains
 pub mod Same

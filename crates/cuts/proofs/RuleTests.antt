@@ -4,13 +4,14 @@
 --     crowd_decided      whether a list is k + 1 different open pairs
 --     of_link, of_pair   what is to be shown of everything on a road need be shown only within the numbering
 use Rattle.std.proofs.Common.{◌≡◌, ℕ, ◌+◌, ◌<◌, ◌≤◌, Bool, ◌&&◌, eqb, List, length, Decides}
+use Rattle.std.specs.List.{list_all}
 use Rattle.std.proofs.lemmas.Bool.{false≢true}
 use Rattle.std.proofs.lemmas.Bool.Decides.{Decides-and, Decides-eqb, Decides-like, Decides-not}
 use Rattle.cuts.proofs.Deciding.{decides_implies, decides_self, links_decided, list_decided, pairs_decided, pairwise_decided}
 use Rattle.cuts.specs.After.{off_road}
 use Rattle.cuts.specs.Instances.{Instance, Open, On, Sound}
 use Rattle.cuts.specs.Rules.{Differ, Share, OnRoad, IsLink, Never, Pairwise, IdleLink, DominatedLink, UnitRoad, DominatedPair, Crowd, CommonFactor, OverloadedLink, DisjointPairs}
-use Rattle.cuts.specs.Tests.{all_links, all_of, all_pairs, also_on, differ, follows, is_common_factor, is_crowd, is_disjoint_pairs, is_dominated_link, is_dominated_pair, is_idle_link, is_link, is_overloaded_link, is_unit_road, never, on_road, pairwise, shared_is, shares, sole_on}
+use Rattle.cuts.specs.Tests.{all_links, all_pairs, also_on, differ, follows, is_common_factor, is_crowd, is_disjoint_pairs, is_dominated_link, is_dominated_pair, is_idle_link, is_link, is_overloaded_link, is_unit_road, never, on_road, pairwise, shared_is, shares, sole_on}
 
 module _ (i : Instance) (ok : Sound i) where
   of_link : (p : ℕ) (Q : ℕ → Type 0) (x : ℕ) → (x ≤ i.highest → On i x p → Q x) → On i x p → Q x
@@ -71,8 +72,8 @@ module _ (i : Instance) (ok : Sound i) where
       Decides-like (is_crowd i k qs)
       (λ (many, (opened, different)). record { many = many; opened = opened; different = different })
       (λ crowd. (crowd.many, (crowd.opened, crowd.different)))
-      (Decides-and (eqb (length qs) (k + 1)) (all_of i.opened qs && pairwise differ qs) (Decides-eqb (length qs) (k + 1))
-      (Decides-and (all_of i.opened qs) (pairwise differ qs)
+      (Decides-and (eqb (length qs) (k + 1)) (list_all i.opened qs && pairwise differ qs) (Decides-eqb (length qs) (k + 1))
+      (Decides-and (list_all i.opened qs) (pairwise differ qs)
       (list_decided i.opened (Open i) (λ q. decides_self (i.opened q)) qs)
       (pairwise_decided differ Differ decides_differ qs)))
 
@@ -91,9 +92,9 @@ module _ (i : Instance) (ok : Sound i) where
       Decides-like (is_common_factor i k r qs)
       (λ ((opened, crowd), (others, shared)). record { opened = opened; crowd = crowd; others = others; shared = shared })
       (λ factor. ((factor.opened, factor.crowd), (factor.others, factor.shared)))
-      (Decides-and (i.opened r && is_crowd i k qs) (all_of (differ r) qs && pairwise (shares i (on_road i r)) qs)
+      (Decides-and (i.opened r && is_crowd i k qs) (list_all (differ r) qs && pairwise (shares i (on_road i r)) qs)
       (Decides-and (i.opened r) (is_crowd i k qs) (decides_self (i.opened r)) (crowd_decided k qs))
-      (Decides-and (all_of (differ r) qs) (pairwise (shares i (on_road i r)) qs)
+      (Decides-and (list_all (differ r) qs) (pairwise (shares i (on_road i r)) qs)
       (list_decided (differ r) (Differ r) (decides_differ r) qs)
       (decides_shares (on_road i r) (OnRoad i r) (λ x. decides_on x r) qs)))
 
@@ -102,9 +103,9 @@ module _ (i : Instance) (ok : Sound i) where
       Decides-like (is_overloaded_link i k l qs)
       (λ ((live, crowd), (through, shared)). record { live = live; crowd = crowd; through = through; shared = shared })
       (λ over. ((over.live, over.crowd), (over.through, over.shared)))
-      (Decides-and (i.live l && is_crowd i k qs) (all_of (i.on l) qs && pairwise (shares i (is_link l)) qs)
+      (Decides-and (i.live l && is_crowd i k qs) (list_all (i.on l) qs && pairwise (shares i (is_link l)) qs)
       (Decides-and (i.live l) (is_crowd i k qs) (decides_self (i.live l)) (crowd_decided k qs))
-      (Decides-and (all_of (i.on l) qs) (pairwise (shares i (is_link l)) qs)
+      (Decides-and (list_all (i.on l) qs) (pairwise (shares i (is_link l)) qs)
       (list_decided (i.on l) (On i l) (decides_on l) qs)
       (decides_shares (is_link l) (IsLink l) (λ x. Decides-eqb x l) qs)))
 

@@ -12,7 +12,7 @@ use Rattle.cuts.specs.Instances.{Instance, Sound, size}
 use Rattle.cuts.specs.Links.{Links, union}
 use Rattle.cuts.specs.Reduces.{Reduces}
 use Rattle.cuts.specs.Runs.{AllAdmitted, Run, after_all, cost_of_all, cut_by_all, left_after_all, no_step, one_more}
-use Rattle.cuts.specs.Steps.{Admitted, Step, after, cost_of, cut_by, left_after, idle_link, dominated_link, unit_road, dominated_pair, common_factor, overloaded_link, disjoint_pairs}
+use Rattle.cuts.specs.Steps.{Admitted, Step, after, cost_of, cut_by, left_after}
 
 pub run_reduces : (i : Instance) → Sound i → (b : ℕ) (j : Instance) (k : ℕ) (c : Links) → Run i b j k c → Reduces i b j k c
 run_reduces i ok b j k c no_step = same_reduces i ok b
@@ -34,13 +34,7 @@ listed_run i b (s ∷ ss) (first, rest) =
     (after_all (after i s) ss) (left_after_all (left_after b s) ss) (cut_by_all ss) (listed_run (after i s) (left_after b s) ss rest)
 
 step_cost : (i : Instance) (k : ℕ) (s : Step) → Admitted i k s → left_after k s + cost_of s ≡ k
-step_cost i k (idle_link l) h = omega arith
-step_cost i k (dominated_link l d) h = omega arith
-step_cost i k (unit_road l p) (some, h) = omega arith
-step_cost i k (dominated_pair q r) h = omega arith
-step_cost i k (common_factor r qs) h = omega arith
-step_cost i k (overloaded_link l qs) (some, h) = omega arith
-step_cost i k (disjoint_pairs qs) h = omega arith
+step_cost i k s h = grind arith
 
 left_and_cost : (i : Instance) (b : ℕ) (ss : List Step) → AllAdmitted i b ss → left_after_all b ss + cost_of_all ss ≡ b
 left_and_cost i b [] h = omega arith

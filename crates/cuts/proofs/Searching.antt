@@ -12,7 +12,9 @@ use Rattle.cuts.proofs.Counting.{less_in, less_other}
 use Rattle.cuts.proofs.Deciding.{decides_implies, decides_self, links_decided, pairs_decided}
 use Rattle.cuts.specs.Instances.{Instance, Live, Open, On, Sound, Met, Cut, HasCut, size}
 use Rattle.cuts.specs.Links.{Links, In, less, none, one, union}
-use Rattle.cuts.specs.Search.{has_cut, is_cut, is_cut_within, live_if_in, meets, meets_by, met_if_open, some_below, some_set, with_link}
+use Rattle.cuts.proofs.Chains.{any_next}
+use Rattle.std.specs.List.{list_any, range_with_len}
+use Rattle.cuts.specs.Search.{has_cut, is_cut, is_cut_within, live_if_in, meets, meets_by, met_if_open, some_set, with_link}
 use Rattle.cuts.specs.Tests.{all_links, all_pairs}
 
 -- the links of s are among 1 to n
@@ -72,8 +74,8 @@ module _ (i : Instance) (ok : Sound i) where
       Decides-like (meets i s p)
       (λ (x, _, (x-in, x-on)). (x, x-in, x-on))
       (λ (x, x-in, x-on). let high = ok.to_highest x (ok.on_live x p x-on) in (x, omega arith, (x-in, x-on)))
-      (Decides-below_or (meets_by i s p) (λ x. In s x × On i x p) (some_below (meets_by i s p))
-      (λ x. Decides-and (s x) (i.on x p) (decides_self (s x)) (decides_self (i.on x p))) refl (λ _. refl) (i.highest + 1))
+      (Decides-below_or (meets_by i s p) (λ x. In s x × On i x p) (λ n. list_any (meets_by i s p) (range_with_len 0 n))
+      (λ x. Decides-and (s x) (i.on x p) (decides_self (s x)) (decides_self (i.on x p))) refl (any_next (meets_by i s p)) (i.highest + 1))
 
   pub cut_decided : (s : Links) → ((x : ℕ) → In s x → x ≤ i.highest) → Decides (is_cut i s) (Cut i s)
   cut_decided s inner =

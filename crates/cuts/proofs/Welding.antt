@@ -64,13 +64,7 @@ module _ (i : Instance) (ok : Sound i) where
 
     -- a road with l on it has h on it too
     road_stays : NoEmptyRoad i → NoEmptyRoad (weld_link i l)
-    road_stays full =
-        remain_roads i (but_for l) every (λ p o _.
-        let (x, x-on) = full p o in
-        ⊎_elim
-        (λ e. (h, dom.follows p o (ap (λ y. i.on y p) (sym e) ∙ x-on), but_for_from l h (λ is. dom.other (sym is))))
-        (λ ne. (x, x-on, but_for_from l x ne))
-        (cases_eq x l))
+    road_stays full = grind arith
 
   pub dominated_link_reduces : (k l h : ℕ) → DominatedLink i l h → Reduces i k (weld_link i l) k none
   dominated_link_reduces k l h dom =

@@ -3,20 +3,17 @@
 --     some_set f n    f is true of some set of links from 1 to n
 --     is_cut i s      s, a set of links of the instance, is a cut
 --     meets i s p     some link of s is on the road of p
-use Rattle.std.specs.Prelude.{ℕ, zero, suc, ◌+◌, Bool, false, ◌&&◌, ◌||◌, nat_le}
+use Rattle.std.specs.Prelude.{ℕ, zero, suc, ◌+◌, Bool, ◌&&◌, ◌||◌, nat_le}
+use Rattle.std.specs.List.{list_any, range_with_len}
 use Rattle.cuts.specs.Instances.{Instance, size}
 use Rattle.cuts.specs.Links.{Links, none, one, union}
 use Rattle.cuts.specs.Tests.{all_links, all_pairs, implies}
-
-abbrev pub some_below : (ℕ → Bool) → ℕ → Bool
-some_below f zero = false
-some_below f (suc n) = f n || some_below f n
 
 abbrev pub meets_by : Instance → Links → ℕ → ℕ → Bool
 meets_by i s p x = s x && i.on x p
 
 abbrev pub meets : Instance → Links → ℕ → Bool
-meets i s p = some_below (meets_by i s p) (i.highest + 1)
+meets i s p = list_any (meets_by i s p) (range_with_len 0 (i.highest + 1))
 
 abbrev pub met_if_open : Instance → Links → ℕ → Bool
 met_if_open i s p = implies (i.opened p) (meets i s p)

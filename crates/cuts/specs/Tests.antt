@@ -3,31 +3,23 @@
 --     is_common_factor i k r qs, is_overloaded_link i k l qs, is_disjoint_pairs i k qs
 --     all_pairs i f     f is true of every number below the number of pairs
 --     all_links i f     f is true of every number from 0 to the highest link
---     all_of f qs       f is true of every pair of the list
 --     pairwise f qs     f is true of any two of the list
 --     implies a b       b is true if a is
 --     shares i f p q    f is true of every link on the roads of both p and q
-use Rattle.std.specs.Prelude.{ℕ, zero, suc, ◌+◌, Bool, true, false, not, ◌&&◌, ◌||◌, List, [], ◌∷◌, length, ◌==◌}
+use Rattle.std.specs.Prelude.{ℕ, ◌+◌, Bool, true, false, not, ◌&&◌, ◌||◌, List, [], ◌∷◌, length, ◌==◌}
+use Rattle.std.specs.List.{list_all, range_with_len}
 use Rattle.cuts.specs.After.{off_road}
 use Rattle.cuts.specs.Instances.{Instance}
 
-abbrev pub all_below : (ℕ → Bool) → ℕ → Bool
-all_below f zero = true
-all_below f (suc n) = f n && all_below f n
-
 abbrev pub all_pairs : Instance → (ℕ → Bool) → Bool
-all_pairs i f = all_below f i.pairs
+all_pairs i f = list_all f (range_with_len 0 i.pairs)
 
 abbrev pub all_links : Instance → (ℕ → Bool) → Bool
-all_links i f = all_below f (i.highest + 1)
-
-abbrev pub all_of : (ℕ → Bool) → List ℕ → Bool
-all_of f [] = true
-all_of f (q ∷ qs) = f q && all_of f qs
+all_links i f = list_all f (range_with_len 0 (i.highest + 1))
 
 abbrev pub pairwise : (ℕ → ℕ → Bool) → List ℕ → Bool
 pairwise f [] = true
-pairwise f (q ∷ qs) = all_of (f q) qs && pairwise f qs
+pairwise f (q ∷ qs) = list_all (f q) qs && pairwise f qs
 
 abbrev pub implies : Bool → Bool → Bool
 implies a b = not a || b
@@ -60,7 +52,7 @@ is_dominated_pair i q r = (i.opened q && i.opened r) && (differ q r && all_links
 
 -- many pairs
 abbrev pub is_crowd : Instance → ℕ → List ℕ → Bool
-is_crowd i k qs = length qs == k + 1 && (all_of i.opened qs && pairwise differ qs)
+is_crowd i k qs = length qs == k + 1 && (list_all i.opened qs && pairwise differ qs)
 
 abbrev pub shared_is : Instance → (ℕ → Bool) → ℕ → ℕ → ℕ → Bool
 shared_is i f p q x = implies (i.on x p && i.on x q) (f x)
@@ -78,10 +70,10 @@ abbrev pub never : ℕ → Bool
 never x = false
 
 abbrev pub is_common_factor : Instance → ℕ → ℕ → List ℕ → Bool
-is_common_factor i k r qs = (i.opened r && is_crowd i k qs) && (all_of (differ r) qs && pairwise (shares i (on_road i r)) qs)
+is_common_factor i k r qs = (i.opened r && is_crowd i k qs) && (list_all (differ r) qs && pairwise (shares i (on_road i r)) qs)
 
 abbrev pub is_overloaded_link : Instance → ℕ → ℕ → List ℕ → Bool
-is_overloaded_link i k l qs = (i.live l && is_crowd i k qs) && (all_of (i.on l) qs && pairwise (shares i (is_link l)) qs)
+is_overloaded_link i k l qs = (i.live l && is_crowd i k qs) && (list_all (i.on l) qs && pairwise (shares i (is_link l)) qs)
 
 abbrev pub is_disjoint_pairs : Instance → ℕ → List ℕ → Bool
 is_disjoint_pairs i k qs = is_crowd i k qs && pairwise (shares i never) qs

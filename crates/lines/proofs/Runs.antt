@@ -1,12 +1,11 @@
 -- What has been printed, from line to line.
 --     run_more    one line more
 --     run_all     no line is left
-use Rattle.std.proofs.Common.{◌≡◌, ℕ, ◌+◌, ◌≤◌, List, ◌∷◌, ◌++◌, length, drop, sym, ap, ◌∙◌, append_assoc}
-use Rattle.std.proofs.lemmas.List.{append-nil, drop_all}
+use Rattle.std.proofs.Common.{◌≡◌, ℕ, ◌+◌, List, [], ◌∷◌, ◌++◌, sym, ap, ◌∙◌, append_assoc}
+use Rattle.std.proofs.lemmas.List.{append-nil}
 use Rattle.book.specs.Meaning.{Meaning}
 use Rattle.working.specs.declared.tally.Tally.{Tally}
 use Rattle.lines.specs.Calls.{line_judged, tally_after}
-use Rattle.lines.specs.Lines.{lines_of}
 use Rattle.lines.specs.Printed.{line_said, run_said}
 
 module _ (m : Meaning) (t : Tally) (n : ℕ) (out all : List ℕ) where
@@ -23,6 +22,6 @@ module _ (m : Meaning) (t : Tally) (n : ℕ) (out all : List ℕ) where
       ap (λ v. out ++ (line_said n j ++ run_said m v (n + 1) rest)) e ∙
       sym (ap (λ x. out ++ run_said m t n x) split) ∙ inv
 
-  pub run_all : (bs : List ℕ) (i : ℕ) → out ++ run_said m t n (lines_of (drop i bs)) ≡ all → length bs ≤ i → out ≡ all
+  pub run_all : (ls : List (List ℕ)) → out ++ run_said m t n ls ≡ all → ls ≡ [] → out ≡ all
   unfolding run_said
-  run_all bs i inv h = sym (ap (λ x. out ++ run_said m t n (lines_of x)) (drop_all i bs h) ∙ append-nil out) ∙ inv
+  run_all ls inv none = sym (ap (λ x. out ++ run_said m t n x) none ∙ append-nil out) ∙ inv

@@ -1,57 +1,55 @@
--- Where the first line of a text ends.
---     first_line          the first line ends at the first newline
---     only_line           a text without a newline is one line
---     next_line           both, as a reader goes on from line to line
-use Rattle.std.proofs.Common.{◌≡◌, ℕ, zero, suc, ◌+◌, ◌-◌, ◌<◌, ◌≤◌, eqb, ◌⊎◌, List, [], ◌∷◌, length, get_or, take, drop, sym, ap, ◌∙◌, subst, inl, inr, arith}
-use Rattle.std.proofs.lemmas.List.{drop_all, drop-drop, get_or-drop, length-drop, take_rest}
-use Rattle.std.proofs.lemmas.Bool.{cond-false, cond-true, eq-eqb, ne_eqb}
-use Rattle.lines.specs.Lines.{lines_of, newline, open_line, NoNewline}
+-- The first line of a text.
+--     first_newline    where a search finds the first newline, or else the end
+--     first_line       the first line goes on to there
+--     next_line        the same, from a place on
+use Rattle.std.proofs.Common.{◌≡◌, ℕ, suc, ◌+◌, ◌-◌, ◌<◌, true, false, not, List, [], ◌∷◌, length, take, drop, Option, refl, sym, ap, ◌∙◌, ⊎_elim, add-one, arith}
+use Rattle.std.proofs.lemmas.Iterator.{index_from_first}
+use Rattle.std.proofs.lemmas.List.{drop-drop, length-drop, take_rest}
+use Rattle.std.specs.List.{AllWithin, HoldsAt, position_or_len}
+use Rattle.std.specs.Option.{MatchOption, unwrap_or}
+use Rattle.std.proofs.lemmas.Bool.{cases_Bool, cond-false, cond-true, not_from_false, not_from_true}
+use Rattle.lines.specs.Lines.{is_newline, lines_of, open_line}
 
-ends_here : (b : ℕ) (bs : List ℕ) → b ≡ newline → lines_of (b ∷ bs) ≡ [] ∷ lines_of bs
-ends_here b bs e = cond-true (eqb b newline) ([] ∷ lines_of bs) (open_line b (lines_of bs)) (eq-eqb b newline e)
+abbrev end : List ℕ → ℕ
+end = position_or_len is_newline
 
-goes_on : (b : ℕ) (bs : List ℕ) → (b ≡ newline → ⊥) → lines_of (b ∷ bs) ≡ open_line b (lines_of bs)
-goes_on b bs ne = cond-false (eqb b newline) ([] ∷ lines_of bs) (open_line b (lines_of bs)) (ne_eqb b newline ne)
+stops : (b : ℕ) (bs : List ℕ) → is_newline b ≡ true → end (b ∷ bs) ≡ 0
+stops b bs e = cond-false (not (is_newline b)) (1 + end bs) 0 (not_from_true (is_newline b) e)
 
-line_to : (zs : List ℕ) (n : ℕ) → n < length zs → ((k : ℕ) → k < n → get_or zs k 0 ≡ newline → ⊥) → get_or zs n 0 ≡ newline → lines_of zs ≡ take n zs ∷ lines_of (drop (suc n) zs)
-line_to [] n h none e = absurd (omega arith)
-line_to (b ∷ bs) zero h none e = ends_here b bs e
-line_to (b ∷ bs) (suc n) h none e =
-    goes_on b bs (none 0 (omega arith)) ∙ ap (open_line b) (line_to bs n (omega arith) (λ k l. none (suc k) (omega arith)) e)
+goes_on : (b : ℕ) (bs : List ℕ) → is_newline b ≡ false → end (b ∷ bs) ≡ suc (end bs)
+goes_on b bs e = cond-true (not (is_newline b)) (1 + end bs) 0 (not_from_false (is_newline b) e) ∙ (omega arith)
 
-whole_line : (zs : List ℕ) → 0 < length zs → ((k : ℕ) → k < length zs → get_or zs k 0 ≡ newline → ⊥) → lines_of zs ≡ zs ∷ []
-whole_line [] h none = absurd (omega arith)
-whole_line (b ∷ []) h none = goes_on b [] (none 0 (omega arith))
-whole_line (b ∷ c ∷ cs) h none =
-    goes_on b (c ∷ cs) (none 0 (omega arith)) ∙ ap (open_line b) (whole_line (c ∷ cs) (omega arith) (λ k l. none (suc k) (omega arith)))
+pub first_newline :
+    (bs : List ℕ) (r : Option ℕ) →
+    MatchOption r (AllWithin (λ b. is_newline b ≡ false) bs 0 (length bs)) (λ i. (i < length bs) × HoldsAt (λ b. is_newline b ≡ true) bs i × AllWithin (λ b. is_newline b ≡ false) bs 0 i) →
+    end bs ≡ unwrap_or r (length bs)
+first_newline = index_from_first end (λ b. is_newline b ≡ true) (λ b. is_newline b ≡ false) refl stops (λ b bs e. goes_on b bs e ∙ sym (add-one (end bs)))
 
-pub first_line : (bs : List ℕ) (i j : ℕ) → i ≤ j → j < length bs → NoNewline bs i j → get_or bs j 0 ≡ newline → lines_of (drop i bs) ≡ take (j - i) (drop i bs) ∷ lines_of (drop (j + 1) bs)
-first_line bs i j order small none e =
-    let d : i + (j - i) ≡ j = omega arith in
-    let next : i + suc (j - i) ≡ j + 1 = omega arith in
-    let inside : j - i < length (drop i bs) = rw length-drop (omega arith) in
-    line_to (drop i bs) (j - i) inside
-    (λ k l f. none (i + k) (omega arith) (omega arith) (sym (get_or-drop i bs k 0) ∙ f))
-    (get_or-drop i bs (j - i) 0 ∙ ap (λ n. get_or bs n 0) d ∙ e) ∙
-    ap (λ ys. take (j - i) (drop i bs) ∷ lines_of ys) (drop-drop (suc (j - i)) i bs ∙ ap (λ n. drop n bs) next)
+abbrev FirstLine : List ℕ → Type 0
+FirstLine bs = lines_of bs ≡ take (end bs) bs ∷ lines_of (drop (suc (end bs)) bs)
 
-pub only_line : (bs : List ℕ) (i : ℕ) → i < length bs → NoNewline bs i (length bs) → lines_of (drop i bs) ≡ drop i bs ∷ lines_of (drop (length bs) bs)
-only_line bs i small none =
-    let some : 0 < length (drop i bs) = rw length-drop (omega arith) in
-    whole_line (drop i bs) some (λ k l f. none (i + k) (omega arith) (omega (arith, length-drop i bs)) (sym (get_or-drop i bs k 0) ∙ f)) ∙
-    sym (ap (λ ys. drop i bs ∷ lines_of ys) (drop_all (length bs) bs (omega arith)))
+ends_here : (b : ℕ) (bs : List ℕ) → is_newline b ≡ true → FirstLine (b ∷ bs)
+ends_here b bs e =
+    cond-true (is_newline b) ([] ∷ lines_of bs) (open_line b (lines_of bs)) e ∙
+    sym (ap (λ n. take n (b ∷ bs) ∷ lines_of (drop (suc n) (b ∷ bs))) (stops b bs e))
 
--- a line goes on to j, and the next begins at n: at the end of the text, or behind the newline
-pub next_line : (bs : List ℕ) (i j n : ℕ) → i < length bs → i ≤ j → j ≤ length bs → NoNewline bs i j → (j < length bs → get_or bs j 0 ≡ newline) → ((j ≡ length bs) × (n ≡ j)) ⊎ ((j ≡ length bs → ⊥) × (n ≡ j + 1)) → (i < n) × (i < length bs) × (lines_of (drop i bs) ≡ take (j - i) (drop i bs) ∷ lines_of (drop n bs))
-next_line bs i j n small order most none e (inl (all, is)) =
-    let last = subst (λ k. NoNewline bs i k) all none in (
-      omega arith,
-      small,
-      only_line bs i small last ∙
-          ap (λ l. l ∷ lines_of (drop (length bs) bs)) (sym (take_rest bs i)) ∙
-          ap (λ k. take (k - i) (drop i bs) ∷ lines_of (drop k bs)) (sym all) ∙
-          ap (λ k. take (j - i) (drop i bs) ∷ lines_of (drop k bs)) (sym is),
-    )
-next_line bs i j n small order most none e (inr (more, is)) =
-    let inside : j < length bs = omega (arith, more) in
-    (omega arith, small, first_line bs i j order inside none (e inside) ∙ ap (λ k. take (j - i) (drop i bs) ∷ lines_of (drop k bs)) (sym is))
+longer : (b : ℕ) (bs : List ℕ) → is_newline b ≡ false → open_line b (lines_of bs) ≡ (b ∷ take (end bs) bs) ∷ lines_of (drop (suc (end bs)) bs) → FirstLine (b ∷ bs)
+longer b bs e more =
+    cond-false (is_newline b) ([] ∷ lines_of bs) (open_line b (lines_of bs)) e ∙ more ∙
+    sym (ap (λ n. take n (b ∷ bs) ∷ lines_of (drop (suc n) (b ∷ bs))) (goes_on b bs e))
+
+pub first_line : (bs : List ℕ) → 0 < length bs → FirstLine bs
+first_line [] h = absurd (omega arith)
+first_line (b ∷ []) h = ⊎_elim (ends_here b []) (λ e. longer b [] e refl) (cases_Bool (is_newline b))
+first_line (b ∷ c ∷ cs) h = ⊎_elim (ends_here b (c ∷ cs)) (λ e. longer b (c ∷ cs) e (ap (open_line b) (first_line (c ∷ cs) (omega arith)))) (cases_Bool (is_newline b))
+
+pub next_line : (bs : List ℕ) (i n : ℕ) → i < length bs → n ≡ end (take (length bs - i) (drop i bs)) → lines_of (drop i bs) ≡ take n (take (length bs - i) (drop i bs)) ∷ lines_of (drop (i + n + 1) bs)
+next_line bs i n inside e =
+    let rest = take (length bs - i) (drop i bs) in
+    let all : rest ≡ drop i bs = take_rest bs i in
+    let some : 0 < length rest = rw (all, length-drop) (omega arith) in
+    let behind : i + suc n ≡ i + n + 1 = omega arith in
+    ap lines_of (sym all) ∙ first_line rest some ∙
+    ap (λ m. take m rest ∷ lines_of (drop (suc m) rest)) (sym e) ∙
+    ap (λ zs. take n rest ∷ lines_of (drop (suc n) zs)) all ∙
+    ap (λ zs. take n rest ∷ lines_of zs) (drop-drop (suc n) i bs ∙ ap (λ m. drop m bs) behind)

@@ -2,11 +2,13 @@
 -- after a newline begins no further line.
 --     lines_of bs         the lines of bs, in order
 --     open_line b ls      b goes in front of the first line of ls
---     NoNewline bs i j    no byte from place i up to, and without, place j is a newline
-use Rattle.std.specs.Prelude.{ℕ, ◌<◌, ◌≤◌, cond, List, [], ◌∷◌, ◌==◌, ◌≢◌, slice_index}
+use Rattle.std.specs.Prelude.{ℕ, Bool, cond, List, [], ◌∷◌, ◌==◌}
 
 abbrev pub newline : ℕ
 newline = 10
+
+abbrev pub is_newline : ℕ → Bool
+is_newline b = b == newline
 
 abbrev pub open_line : ℕ → List (List ℕ) → List (List ℕ)
 open_line b [] = (b ∷ []) ∷ []
@@ -14,7 +16,4 @@ open_line b (l ∷ ls) = (b ∷ l) ∷ ls
 
 abbrev pub lines_of : List ℕ → List (List ℕ)
 lines_of [] = []
-lines_of (b ∷ bs) = cond (b == newline) ([] ∷ lines_of bs) (open_line b (lines_of bs))
-
-abbrev pub NoNewline : List ℕ → ℕ → ℕ → Type 0
-NoNewline bs i j = (k : ℕ) → i ≤ k → k < j → slice_index bs k ≢ newline
+lines_of (b ∷ bs) = cond (is_newline b) ([] ∷ lines_of bs) (open_line b (lines_of bs))

@@ -23,32 +23,14 @@ impl From<WorkingFault> for LineFault {
 fn step_by<'a>(letter: u8, numbers: &'a [u16]) -> Option<Step<'a>>
     ensures { option_map rule_of result ≡ step_by letter numbers.now }
 {
-    match letter as char {
-        'i' => match numbers {
-            [link] => Some(Step::IdleLink(*link)),
-            _ => None,
-        },
-        'e' => match numbers {
-            [link, by] => Some(Step::DominatedLink(*link, *by)),
-            _ => None,
-        },
-        'u' => match numbers {
-            [link, pair] => Some(Step::UnitRoad(*link, *pair)),
-            _ => None,
-        },
-        'p' => match numbers {
-            [inner, outer] => Some(Step::DominatedPair(*inner, *outer)),
-            _ => None,
-        },
-        'f' => match numbers {
-            [pair, pairs @ ..] => Some(Step::CommonFactor(*pair, pairs)),
-            _ => None,
-        },
-        'o' => match numbers {
-            [link, pairs @ ..] => Some(Step::OverloadedLink(*link, pairs)),
-            _ => None,
-        },
-        'n' => Some(Step::DisjointPairs(numbers)),
+    match (letter as char, numbers) {
+        ('i', [link]) => Some(Step::IdleLink(*link)),
+        ('e', [link, by]) => Some(Step::DominatedLink(*link, *by)),
+        ('u', [link, pair]) => Some(Step::UnitRoad(*link, *pair)),
+        ('p', [inner, outer]) => Some(Step::DominatedPair(*inner, *outer)),
+        ('f', [pair, pairs @ ..]) => Some(Step::CommonFactor(*pair, pairs)),
+        ('o', [link, pairs @ ..]) => Some(Step::OverloadedLink(*link, pairs)),
+        ('n', pairs) => Some(Step::DisjointPairs(pairs)),
         _ => None,
     }
 }
@@ -59,14 +41,11 @@ fn call<B: RoadBook>(
     letter: u8,
     numbers: &[u16],
 ) -> Result<(), LineFault>
-    ensures outcome { LineOutcome (call_judged (B.RoadBook.meaning working.old.book.now) working.old.tally line (step_by letter numbers.now)) working.old.tally result working.new.tally }
+    ensures outcome { LineOutcome (call_judged (B.meaning working.old.book.now) working.old.tally line (step_by letter numbers.now)) working.old.tally result working.new.tally }
     ensures keeps { working.new.book ≡ working.old.book }
 {
-    let Some(step) = step_by(letter, numbers) else {
-        return Err(LineFault::NotALine(line));
-    };
-    working.step(step)?;
-    Ok(())
+    let step = step_by(letter, numbers).ok_or(LineFault::NotALine(line))?;
+    Ok(working.step(step)?)
 }
 
 // Runs a line. The inner result is the line's own: a refused line changes nothing.
@@ -76,7 +55,7 @@ pub(crate) fn run_line<B: RoadBook>(
     line: usize,
     bytes: &[u8],
 ) -> Result<Result<(), LineFault>, AllocError>
-    ensures outcome { IfOk result (λ s. LineOutcome (line_judged (B.RoadBook.meaning working.old.book.now) working.old.tally line bytes.now) working.old.tally s working.new.tally) }
+    ensures outcome { IfOk result (λ s. LineOutcome (line_judged (B.meaning working.old.book.now) working.old.tally line bytes.now) working.old.tally s working.new.tally) }
     ensures keeps { working.new.book ≡ working.old.book }
 {
     let [letter, rest @ ..] = bytes else {

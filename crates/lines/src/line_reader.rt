@@ -1,23 +1,19 @@
 // Takes a text apart into lines. No byte is copied.
-ghost use Rattle.std.specs.Prelude.{◌≡◌, ℕ, ◌<◌, ◌≤◌, ◌∷◌, length, drop, MatchOption, slice_index};
-ghost use Rattle.lines.specs.Lines.{lines_of, newline, NoNewline};
+ghost use Rattle.std.specs.Prelude.{◌≡◌, ◌-◌, ◌≤◌, length};
+ghost use Rattle.std.specs.Iterator.{at_most, YieldsFirstRef};
+ghost use Rattle.std.specs.List.{position_or_len};
+ghost use Rattle.lines.specs.Lines.{is_newline};
+ghost use Rattle.lines.specs.Reading.{lines_left};
 
-// Where the line that begins at a place ends: at its newline byte, or at the text's end.
-fn line_end(text: &[u8], start: usize) -> usize
-    requires { start < length text.now }
-    ensures order { (start ≤ result) × (result ≤ length text.now) }
-    ensures before { NoNewline text.now start result }
-    ensures here { result < length text.now → slice_index text.now result ≡ newline }
+// How many bytes stand in front of the first newline byte, or in all.
+fn line_len(text: &[u8]) -> usize
+    ensures first { result ≡ position_or_len is_newline text.now }
+    ensures bound { result ≤ length text.now }
 {
-    for end in start..text.len() {
-        if text[end] == b'\n' {
-            return end;
-        }
-    }
-    text.len()
+    text.iter().position(|b| *b == b'\n').unwrap_or(text.len())
 }
 
-// A place in the lent text, counted in bytes from 0, where a line begins.
+// A place in the lent text, counted in bytes from 0, where a line begins if it is inside the text.
 #[derive(Drop)]
 pub(crate) struct LineReader<'a> {
     text: &'a [u8],
@@ -30,23 +26,25 @@ impl<'a> LineReader<'a> {
     {
         LineReader { text, at: 0 }
     }
+}
 
-    // The next line, without its newline byte.
-    pub(crate) fn next_line(&mut self) -> Option<&'a [u8]>
-        ensures lines { MatchOption result (length self.old.text.now ≤ self.old.at) (λ l. (self.old.at < self.new.at) × (self.old.at < length self.old.text.now) × (lines_of (drop self.old.at self.old.text.now) ≡ l.now ∷ lines_of (drop self.new.at self.old.text.now))) }
-        ensures same { self.new.text ≡ self.old.text }
-    {
+// The lines, each without its newline byte.
+impl<'a> Iterator for LineReader<'a> {
+    type Item = &'a [u8];
+
+    ghost next_gives = { YieldsFirstRef lines_left };
+
+    ghost remaining = { λ r. at_most (length r.text.now - r.at) };
+
+    fn next(&mut self) -> Option<&'a [u8]> {
         let text = self.text;
         let start = self.at;
         if start >= text.len() {
             return None;
         }
-        let end = line_end(text, start);
-        if end == text.len() {
-            self.at = end;
-        } else {
-            self.at = end + 1;
-        }
-        Some(&text[start..end])
+        let rest = &text[start..];
+        let len = line_len(rest);
+        self.at = start + len + 1;
+        Some(&rest[..len])
     }
 }

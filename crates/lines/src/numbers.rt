@@ -9,27 +9,19 @@ use std::alloc::{AllocError, Global};
 fn advance(scan: Scan, byte: u8) -> Turn
     ensures { result ≡ advanced scan byte }
 {
-    match scan {
-        Scan::Between => match byte {
-            b' ' => Turn::GoesOn(Scan::AfterBlank),
-            _ => Turn::Breaks,
-        },
-        Scan::AfterBlank => match byte {
-            b'0' => Turn::Ends(0, Scan::Between),
-            b'1'..=b'9' => Turn::GoesOn(Scan::Inside(u16::from(byte - b'0'))),
-            _ => Turn::Breaks,
-        },
-        Scan::Inside(n) => match byte {
-            b'0'..=b'9' => {
-                let more = u32::from(n) * 10 + u32::from(byte - b'0');
-                if more > 65_535 {
-                    return Turn::Breaks;
-                }
-                Turn::GoesOn(Scan::Inside(more as u16))
+    match (scan, byte) {
+        (Scan::Between, b' ') => Turn::GoesOn(Scan::AfterBlank),
+        (Scan::AfterBlank, b'0') => Turn::Ends(0, Scan::Between),
+        (Scan::AfterBlank, b'1'..=b'9') => Turn::GoesOn(Scan::Inside(u16::from(byte - b'0'))),
+        (Scan::Inside(n), b'0'..=b'9') => {
+            let more = u32::from(n) * 10 + u32::from(byte - b'0');
+            match u16::try_from(more) {
+                Ok(more) => Turn::GoesOn(Scan::Inside(more)),
+                Err(_) => Turn::Breaks,
             }
-            b' ' => Turn::Ends(n, Scan::AfterBlank),
-            _ => Turn::Breaks,
-        },
+        }
+        (Scan::Inside(n), b' ') => Turn::Ends(n, Scan::AfterBlank),
+        _ => Turn::Breaks,
     }
 }
 

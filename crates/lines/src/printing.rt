@@ -1,34 +1,33 @@
-// The lines that the program prints.
-ghost use Rattle.lines.specs.Printed.{left_line, refusal_line, state_line};
-ghost use Rattle.std.specs.Prelude.{◌≡◌, IfOk, string_bytes};
+// What the program prints for a line.
+ghost use Rattle.lines.specs.Said.{said_text};
+ghost use Rattle.std.specs.Prelude.{Some};
 
-use std::alloc::{AllocError, Global};
-use working::State;
+use std::fmt;
 
-// `no`, the number of the line, the refusal and its place.
-pub(crate) fn refusal_line(
-    heap: Global,
-    line: usize,
-    number: u8,
-    place: usize,
-) -> Result<String, AllocError>
-    ensures { IfOk result (λ s. string_bytes s ≡ refusal_line line number place) }
-{
-    format!(in heap; "no {line} {number} {place}\n")
+// `no`, the number of the line, the refusal and its place; or what is left; or that there is no cut.
+#[derive(Clone, Copy)]
+pub(crate) enum Said {
+    Refused {
+        line: usize,
+        number: u8,
+        place: usize,
+    },
+    Left(u8),
+    NoCut,
 }
 
-fn left_line(heap: Global, left: u8) -> Result<String, AllocError>
-    ensures { IfOk result (λ s. string_bytes s ≡ left_line left) }
-{
-    format!(in heap; "left {left}\n")
-}
+impl fmt::Display for Said {
+    ghost output = { λ s. Some (said_text s) };
 
-// What is left after a step, or `none`.
-pub(crate) fn step_line(heap: Global, state: State, left: u8) -> Result<String, AllocError>
-    ensures { IfOk result (λ s. string_bytes s ≡ state_line state left) }
-{
-    match state {
-        State::Open | State::Parted => left_line(heap, left),
-        State::NoCut => String::from_str(heap, "none\n"),
+    fn fmt<W: fmt::Write>(&self, f: &mut fmt::Formatter<W>) -> fmt::Result {
+        match self {
+            Said::Refused {
+                line,
+                number,
+                place,
+            } => write!(f, "no {line} {number} {place}\n"),
+            Said::Left(left) => write!(f, "left {left}\n"),
+            Said::NoCut => write!(f, "none\n"),
+        }
     }
 }

@@ -7,10 +7,7 @@ use std::{fs, io};
 
 // A file that cannot be opened reads as empty.
 fn file_bytes(rt: &HostRuntime) -> Vec<u8> {
-    match fs::read(rt, "plan") {
-        Ok(bytes) => bytes,
-        Err(_) => Vec::new(rt.alloc()),
-    }
+    fs::read(rt, "plan").unwrap_or_else(|_| Vec::new(rt.alloc()))
 }
 
 fn main(rt: HostRuntime) -> io::Result<()> {

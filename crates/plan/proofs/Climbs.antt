@@ -1,36 +1,40 @@
 -- What stays true as one follows broader terms up from a term.
 --     plan_falls       the broader terms of a plan fall
---     depth_climb      one step up is one link less
 --     above_climb      a smaller link lies above a term where it lies above the broader term
 --     above_past       a larger link does not lie above a term
 --     above_self       a term's own link does
 --     above_root       nothing lies above term 0
---     above_here       so a term lies above itself exactly when it is not 0
---     front_climb      the way to the broader term is the front of the way, less one
---     front_last       the way's last link is the term's own
-use Rattle.std.proofs.Common.{◌≡◌, ℕ, ◌+◌, ◌-◌, ◌<◌, true, false, not, ◌||◌, eqb, List, [], ◌∷◌, ◌++◌, length, take, Some, sym, refl, ap, ◌∙◌, ⊎_elim, arith}
-use mathlib.Core.Bool.{or_assoc, or-false}
-use Rattle.std.specs.List.{slice_get}
-use Rattle.std.proofs.lemmas.List.{length_push, take_at, take-take}
-use Rattle.std.proofs.lemmas.Bool.{cases_Bool, cases_eq, cases_lt, eq-eqb, ne_eqb, or_right}
+--     climb_root       the climb from term 0 has no link
+--     climb_more       the climb from a term is its own link, and the climb from its broader term
+--     climb_found      the first link that is not larger than a given one is that one where it lies above
+--     climb_yields     a climb that is asked for its links gives those
+--     climb_place      what stands at a place of the climb, counted from the other end of the way
+use Rattle.std.proofs.Common.{◌≡◌, ℕ, ◌-◌, ◌<◌, true, false, ◌||◌, eqb, leb, List, [], ◌∷◌, ◌++◌, length, get_or, reverse, Some, sym, refl, ap, ◌∙◌, ⊎_elim, arith}
+use mathlib.Core.Bool.{or-false}
+use Rattle.std.specs.List.{find, slice_get}
+use Rattle.std.specs.Iterator.{YieldsFirst}
+use Rattle.std.specs.Option.{option_eq}
+use Rattle.std.proofs.lemmas.Iterator.{YieldsList}
+use Rattle.std.proofs.lemmas.Iterator.Consumers.{YieldsList-from_first}
+use Rattle.std.proofs.lemmas.List.{get_or-reverse, length-reverse, reverse-append}
+use Rattle.std.proofs.lemmas.Option.{slice_get-get_or}
+use Rattle.std.proofs.lemmas.List.Folds.{list_any-append}
+use Rattle.std.proofs.lemmas.Bool.{cases_Bool, cases_eq, cases_lt, eq-eqb, le-leb, lt-leb, ne_eqb, or_right}
 use Rattle.plan.specs.Plans.{broader_of}
-use Rattle.plan.specs.Tree.{among, way, Falls}
+use Rattle.plan.specs.Tree.{among, links_up, way, Falls}
+use Rattle.plan.specs.declared.climb.Climb.{Climb}
 use Rattle.plan.specs.declared.shape.Plan.{Plan}
-use Rattle.plan.proofs.Members.{among_at, at_last, at_take}
-use Rattle.plan.proofs.Ways.{way_bounds, way_more, way_root}
+use Rattle.plan.proofs.Members.{among_at}
+use Rattle.plan.proofs.Ways.{climb, way_bounds, way_more, way_root}
 
 pub plan_falls : (p : Plan) → Falls (broader_of p)
 plan_falls p t pos =
     ⊎_elim (λ h. p.rooted.0 t pos h) (λ h. omega (arith, p.rooted.1 t h)) (cases_lt t p.terms)
 
 pub among_push : (x : ℕ) (ys : List ℕ) (y : ℕ) → among x (ys ++ (y ∷ [])) ≡ (among x ys || eqb x y)
-among_push x [] y = or-false (eqb x y)
-among_push x (z ∷ zs) y = ap (λ b. eqb x z || b) (among_push x zs y) ∙ sym (or_assoc (eqb x z) (among x zs) (eqb x y))
+among_push x ys y = list_any-append (λ z. eqb x z) ys (y ∷ []) ∙ ap (λ b. among x ys || b) (or-false (eqb x y))
 
 module _ (up : ℕ → ℕ) (falls : Falls up) where
-  pub depth_climb : (t : ℕ) → 0 < t → length (way up t) ≡ length (way up (up t)) + 1
-  depth_climb t pos = ap length (way_more up falls t pos) ∙ length_push (way up (up t)) t
-
   pub above_past : (x t : ℕ) → t < x → among x (way up t) ≡ false
   above_past x t h =
       ⊎_elim
@@ -50,21 +54,28 @@ module _ (up : ℕ → ℕ) (falls : Falls up) where
       ap (among x) (way_more up falls t (omega arith)) ∙ among_push x (way up (up t)) t ∙
       ap (λ b. among x (way up (up t)) || b) (ne_eqb x t (λ e. omega arith)) ∙ or-false (among x (way up (up t)))
 
-  pub front_climb : (t d : ℕ) (ws : List ℕ) → 0 < t → d ≡ length (way up t) → way up t ≡ take d ws → way up (up t) ≡ take (d - 1) ws
-  front_climb t d ws pos e f =
-      let w = way up (up t) in
-      let l : length w ≡ d - 1 = omega (arith, depth_climb t pos) in
-      sym (take_at w (t ∷ []) (d - 1) l) ∙ ap (take (d - 1)) (sym (way_more up falls t pos) ∙ f) ∙ take-take (d - 1) d ws (omega arith)
+  pub climb_root : links_up up 0 ≡ []
+  climb_root = ap reverse (way_root up falls)
 
-  pub front_last : (t k : ℕ) (ws : List ℕ) → 0 < t → length (way up t) ≡ k + 1 → way up t ≡ take (k + 1) ws → slice_get ws k ≡ Some t
-  front_last t k ws pos e f =
-      let w = way up (up t) in
-      let l : length w ≡ k = omega (arith, depth_climb t pos) in
-      sym (at_take (k + 1) ws k (omega arith)) ∙ ap (λ xs. slice_get xs k) (sym f ∙ way_more up falls t pos) ∙ at_last w t k l
+  pub climb_more : (t : ℕ) → 0 < t → links_up up t ≡ t ∷ links_up up (up t)
+  climb_more t pos = ap reverse (way_more up falls t pos) ∙ reverse-append (way up (up t)) (t ∷ [])
 
-  pub above_here : (t : ℕ) → among t (way up t) ≡ not (eqb t 0)
-  above_here t =
-      ⊎_elim
-      (λ e. ap (λ s. among t (way up s)) e ∙ above_root t ∙ sym (ap not (eq-eqb t 0 e)))
-      (λ ne. above_self t (omega (arith, ne)) ∙ sym (ap not (ne_eqb t 0 ne)))
-      (cases_eq t 0)
+  pub climb_found : (x t : ℕ) → option_eq eqb (find (λ y. leb y x) (links_up up t)) (Some x) ≡ among x (way up t)
+  climb_found x =
+      climb up falls (λ t. option_eq eqb (find (λ y. leb y x) (links_up up t)) (Some x) ≡ among x (way up t))
+      (rw climb_root (sym (above_root x)))
+      (λ t pos below.
+      rw (climb_more t pos) (⊎_elim
+      (λ h. rw (lt-leb t x h) (below ∙ sym (above_climb x t h)))
+      (λ h. rw (le-leb t x h) (⊎_elim (λ e. rw e (eq-eqb x x refl ∙ sym (above_self x (omega arith)))) (λ ne. rw (ne_eqb t x ne) (sym (above_past x t (omega (arith, ne))))) (cases_eq t x)))
+      (cases_lt x t)))
+
+  pub climb_place : (t k : ℕ) → k < length (way up t) → slice_get (links_up up t) (length (way up t) - 1 - k) ≡ slice_get (way up t) k
+  climb_place t k h =
+      let w = way up t in
+      let j = length w - 1 - k in
+      let e : length w - 1 - j ≡ k = omega arith in
+      slice_get-get_or (reverse w) j 0 (rw length-reverse (omega arith)) ∙ ap Some (get_or-reverse w j 0 (omega arith) ∙ ap (λ i. get_or w i 0) e) ∙ sym (slice_get-get_or w k 0 h)
+
+pub climb_yields : {s : Climb} (p : Plan) (t : ℕ) → s.plan.now ≡ p → s.at ≡ t → YieldsList (YieldsFirst (λ c. links_up (broader_of c.plan.now) c.at)) (λ x. x) s (links_up (broader_of p) t)
+climb_yields p t e f = YieldsList-from_first (λ x. x) (λ c. links_up (broader_of c.plan.now) c.at) (links_up (broader_of p) t) cc

@@ -2,8 +2,8 @@
 --     bits_none, bits_more    a number in no bits, and in one bit more
 --     length_bits             so many bits as were asked for
 --     bits_binary             each of them is 0 or 1
---     bits_shift              the first bits of a number are those of what is left when the others are shifted out
-use Rattle.std.proofs.Common.{◌≡◌, ℕ, zero, suc, ◌+◌, ◌-◌, ◌/◌, ◌%◌, ◌^◌, ◌<◌, List, [], ◌∷◌, ◌++◌, length, refl, ap, ◌∙◌, add-one, arith}
+--     bits_next               the first bits of a number are those of what is left when the others are shifted out
+use Rattle.std.proofs.Common.{◌≡◌, ℕ, zero, suc, ◌+◌, ◌-◌, ◌/◌, ◌%◌, ◌^◌, ◌<◌, ◌≤◌, List, [], ◌∷◌, ◌++◌, length, refl, ap, ◌∙◌, add-one, arith}
 use Rattle.std.specs.List.{AllByRecursion}
 use Rattle.std.proofs.lemmas.Nat.{mod_below, shr-shr}
 use Rattle.std.proofs.ByRecursion.{All-push}
@@ -31,12 +31,11 @@ unfolding number_bits
 bits_binary zero v = tt
 bits_binary (suc w) v = All-push (λ b. b < 2) (number_bits w (v / 2)) (v % 2) (bits_binary w (v / 2)) (mod_below v 2 (omega arith))
 
--- i of the w bits of v, and the next
-pub bits_shift : (w i v : ℕ) → i < w → number_bits (i + 1) (v / 2 ^ (w - (i + 1))) ≡ number_bits i (v / 2 ^ (w - i)) ++ (v / 2 ^ (w - 1 - i) % 2 ∷ [])
-bits_shift w i v h =
-    let k = w - (i + 1) in
-    let e : k + 1 ≡ w - i = omega arith in
-    let f : k ≡ w - 1 - i = omega arith in
-    bits_more i (v / 2 ^ k) ∙
-    ap (λ x. number_bits i x ++ (v / 2 ^ k % 2 ∷ [])) (shr-shr v k 1 ∙ ap (λ j. v / 2 ^ j) e) ∙
-    ap (λ j. number_bits i (v / 2 ^ (w - i)) ++ (v / 2 ^ j % 2 ∷ [])) f
+-- all but the last p of the w bits of v, and one more of them
+pub bits_next : (w p v : ℕ) → 0 < p → p ≤ w → number_bits (w - (p - 1)) (v / 2 ^ (p - 1)) ≡ number_bits (w - p) (v / 2 ^ p) ++ (v / 2 ^ (p - 1) % 2 ∷ [])
+bits_next w p v pos most =
+    let k = p - 1 in
+    let e : w - k ≡ w - p + 1 = omega arith in
+    let f : k + 1 ≡ p = omega arith in
+    ap (λ j. number_bits j (v / 2 ^ k)) e ∙ bits_more (w - p) (v / 2 ^ k) ∙
+    ap (λ x. number_bits (w - p) x ++ (v / 2 ^ k % 2 ∷ [])) (shr-shr v k 1 ∙ ap (λ j. v / 2 ^ j) f)

@@ -1,5 +1,4 @@
 -- Lists of fields, each a width and a number, and the bits they are written in.
---     joined_append                                            what two lists give, one behind the other
 --     widths fs                                                how many bits a list of fields takes
 --     length_fields                                            so many bits they are
 --     widths_append, widths_terms, widths_ends                 how many bits the parts of a plan take
@@ -10,19 +9,14 @@
 use Rattle.std.proofs.Common.{◌≡◌, ℕ, zero, suc, ◌+◌, ◌-◌, ◌*◌, ◌<◌, List, [], ◌∷◌, ◌++◌, length, sym, refl, ap, ◌∙◌, add-mul, one-mul, zero-mul, add-one, arith}
 use Rattle.std.specs.List.{range_with_len, flat_map}
 use Rattle.std.proofs.lemmas.List.FromFn.{map-range_with_len_more}
-use Rattle.std.proofs.lemmas.List.{append_assoc, append-nil, length-append, map-id}
+use Rattle.std.proofs.lemmas.Grind.{flat_map-append}
+use Rattle.std.proofs.lemmas.List.{append_assoc, append-nil, length-append}
+use Rattle.plan.proofs.Fields.{counting_push}
 use Rattle.plan.specs.Layout.{pair_place, width_for}
 use Rattle.plan.specs.Packed.{bits_of, end_fields, field_bits, head_fields, number_bits, pair_fields, plan_fields, term_field, term_fields}
 use Rattle.plan.specs.Plans.{broader_of, ends_of}
 use Rattle.plan.specs.declared.shape.Plan.{Plan}
 use Rattle.plan.proofs.Digits.{length_bits}
-
-pub joined_append : {X Y : Type 0} (f : X → List Y) (xs ys : List X) → flat_map f (xs ++ ys) ≡ flat_map f xs ++ flat_map f ys
-joined_append f [] ys = refl
-joined_append f (x ∷ xs) ys = ap (λ zs. f x ++ zs) (joined_append f xs ys) ∙ sym (append_assoc (f x) (flat_map f xs) (flat_map f ys))
-
-pub counting_push : (a n : ℕ) → range_with_len a (n + 1) ≡ range_with_len a n ++ ((a + n) ∷ [])
-counting_push a n = sym (map-id (range_with_len a (n + 1))) ∙ map-range_with_len_more (λ (k : ℕ). k) a n (a + n) refl ∙ ap (λ xs. xs ++ ((a + n) ∷ [])) (map-id (range_with_len a n))
 
 abbrev pub widths : List (ℕ × ℕ) → ℕ
 widths [] = 0
@@ -55,13 +49,13 @@ module _ (w : ℕ) (up : ℕ → ℕ) where
       let f : j + 1 ≡ t + 1 - 1 = omega arith in
       ap (λ x. flat_map field_bits (term_fields w up j) ++ number_bits w (up x)) (sym e) ∙
       ap (λ xs. flat_map field_bits (term_fields w up j) ++ xs) (sym (append-nil (number_bits w (up (1 + j))))) ∙
-      sym (joined_append field_bits (term_fields w up j) ((w, up (1 + j)) ∷ [])) ∙ ap (flat_map field_bits) (sym (terms_more j) ∙ ap (term_fields w up) f)
+      sym (flat_map-append field_bits (term_fields w up j) ((w, up (1 + j)) ∷ [])) ∙ ap (flat_map field_bits) (sym (terms_more j) ∙ ap (term_fields w up) f)
 
 module _ (w : ℕ) (ends : ℕ → ℕ × ℕ) where
   pub ends_more : (q : ℕ) → end_fields w ends (q + 1) ≡ end_fields w ends q ++ pair_fields w ends q
   ends_more q =
       let e : 0 + q ≡ q = omega arith in
-      ap (flat_map (pair_fields w ends)) (counting_push 0 q ∙ ap (λ k. range_with_len 0 q ++ (k ∷ [])) e) ∙ joined_append (pair_fields w ends) (range_with_len 0 q) (q ∷ [])
+      ap (flat_map (pair_fields w ends)) (counting_push 0 q ∙ ap (λ k. range_with_len 0 q ++ (k ∷ [])) e) ∙ flat_map-append (pair_fields w ends) (range_with_len 0 q) (q ∷ [])
 
   pub widths_ends : (q : ℕ) → widths (end_fields w ends q) ≡ q * (2 * w)
   widths_ends zero = sym (zero-mul (2 * w))
@@ -77,7 +71,7 @@ module _ (w : ℕ) (ends : ℕ → ℕ × ℕ) where
       let b = number_bits w (ends q).1 in
       let before = flat_map field_bits (end_fields w ends q) in
       append_assoc before a b ∙ ap (λ xs. before ++ (a ++ xs)) (sym (append-nil b)) ∙
-      sym (joined_append field_bits (end_fields w ends q) (pair_fields w ends q)) ∙ ap (flat_map field_bits) (sym (ends_more q))
+      sym (flat_map-append field_bits (end_fields w ends q) (pair_fields w ends q)) ∙ ap (flat_map field_bits) (sym (ends_more q))
 
 pub head_bits : (n m k : ℕ) → number_bits 9 n ++ number_bits 9 m ++ number_bits 8 k ≡ flat_map field_bits (head_fields n m k)
 head_bits n m k =
@@ -91,7 +85,7 @@ plan_bits p =
     let t = term_fields (width_for p.terms) (broader_of p) (p.terms - 1) in
     let e = end_fields (width_for p.terms) (ends_of p) p.pairs in
     append_assoc (flat_map field_bits h) (flat_map field_bits t) (flat_map field_bits e) ∙
-    ap (λ xs. flat_map field_bits h ++ xs) (sym (joined_append field_bits t e)) ∙ sym (joined_append field_bits h (t ++ e))
+    ap (λ xs. flat_map field_bits h ++ xs) (sym (flat_map-append field_bits t e)) ∙ sym (flat_map-append field_bits h (t ++ e))
 
 pub plan_widths : (p : Plan) → widths (plan_fields p) ≡ pair_place p.terms p.pairs
 plan_widths p =

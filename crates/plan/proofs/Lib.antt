@@ -12,7 +12,6 @@ pub mod PackedBytes
 pub mod Packs
 pub mod Places
 pub mod Puts
-pub mod Refusing
 pub mod Reread
 pub mod Roads
 pub mod Rows

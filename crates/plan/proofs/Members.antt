@@ -1,13 +1,10 @@
 -- Where numbers stand in a list.
 --     none_of_nil           nothing stands in the empty list
---     within                what stands at a place stands within the list
---     at_push, at_last      what stands in a list with one more at its end
+--     at_push               what stands in a list with one more at its end
 --     at_drop, at_take      what stands in the rest and in the front of a list
---     at_some               within the list something stands
 --     among_at, at_among    to be among a list is to stand somewhere in it
-use Rattle.std.proofs.Common.{◌≡◌, ℕ, zero, suc, ◌+◌, ◌<◌, true, eqb, ◌⊎◌, List, [], ◌∷◌, ◌++◌, length, get_or, take, drop, Some, None, sym, refl, ap, subst, inl, inr, ⊎_elim, suc-add, zero-add, arith}
+use Rattle.std.proofs.Common.{◌≡◌, ℕ, zero, suc, ◌+◌, ◌<◌, true, eqb, ◌⊎◌, List, [], ◌∷◌, ◌++◌, length, take, drop, Some, None, sym, refl, ap, inl, inr, ⊎_elim, suc-add, zero-add, arith}
 use Rattle.std.specs.List.{slice_get}
-use Rattle.std.proofs.lemmas.Option.{slice_get-get_or}
 use Rattle.std.proofs.lemmas.Bool.{or_cases, or_left, or_right, eq-eqb, eqb-true}
 use Rattle.plan.specs.Tree.{among}
 
@@ -16,11 +13,6 @@ none_some e = let z : ◌≡◌ {A = ℕ} 0 1 = cc in omega arith
 
 pub none_of_nil : (k x : ℕ) → slice_get {X = ℕ} [] k ≡ Some x → ⊥
 none_of_nil k x e = none_some e
-
-pub within : (xs : List ℕ) (k x : ℕ) → slice_get xs k ≡ Some x → k < length xs
-within [] k x e = absurd (none_some e)
-within (y ∷ ys) zero x e = omega arith
-within (y ∷ ys) (suc k) x e = let h : k < length ys = within ys k x e in omega arith
 
 pub at_push : (xs : List ℕ) (y k x : ℕ) → slice_get (xs ++ (y ∷ [])) k ≡ Some x → (slice_get xs k ≡ Some x) ⊎ ((k ≡ length xs) × (x ≡ y))
 at_push [] y zero x e = inr (refl, cc)
@@ -39,9 +31,6 @@ at_take (suc n) [] k h = refl
 at_take (suc n) (x ∷ xs) zero h = refl
 at_take (suc n) (x ∷ xs) (suc k) h = at_take n xs k (omega arith)
 
-pub at_some : (xs : List ℕ) (k : ℕ) → k < length xs → (x : ℕ) × (slice_get xs k ≡ Some x)
-at_some xs k h = (get_or xs k 0, slice_get-get_or xs k 0 h)
-
 pub among_at : (x : ℕ) (xs : List ℕ) → among x xs ≡ true → (k : ℕ) × (slice_get xs k ≡ Some x)
 among_at x [] e = let z : ◌≡◌ {A = ℕ} 0 1 = cc in absurd (omega arith)
 among_at x (y ∷ ys) e =
@@ -51,7 +40,3 @@ pub at_among : (x : ℕ) (xs : List ℕ) (k : ℕ) → slice_get xs k ≡ Some x
 at_among x [] k e = absurd (none_some e)
 at_among x (y ∷ ys) zero e = let h : x ≡ y = cc in or_left (eqb x y) (among x ys) (eq-eqb x y h)
 at_among x (y ∷ ys) (suc k) e = or_right (eqb x y) (among x ys) (at_among x ys k e)
-
-pub at_last : (xs : List ℕ) (y k : ℕ) → length xs ≡ k → slice_get (xs ++ (y ∷ [])) k ≡ Some y
-at_last [] y k e = subst (λ j. slice_get (y ∷ []) j ≡ Some y) e refl
-at_last (x ∷ xs) y k e = subst (λ j. slice_get ((x ∷ xs) ++ (y ∷ [])) j ≡ Some y) e (at_last xs y (length xs) refl)

@@ -3,9 +3,12 @@
 --     broader_within  no term's field ends behind that of the last
 --     pair_next       the field behind those of pair q is that of pair q + 1
 --     pair_within     no pair's fields end behind those of the last
---     pairs_start     the first pair stands behind the last term
-use Rattle.std.proofs.Common.{◌≡◌, ℕ, ◌+◌, ◌-◌, ◌*◌, ◌<◌, ◌≤◌, mul-le-mul_right, add-mul, one-mul, zero-mul, arith}
+--     places_few      all places of a plan are small numbers
+use Rattle.std.proofs.Common.{◌≡◌, ℕ, ◌+◌, ◌-◌, ◌*◌, ◌^◌, ◌<◌, ◌≤◌, mul-le-mul_right, add-mul, one-mul, arith}
+use Rattle.std.proofs.lemmas.Nat.{mul-le}
 use Rattle.plan.specs.Layout.{broader_place, pair_place, width_for}
+use Rattle.plan.specs.Shape.{Counted}
+use Rattle.plan.proofs.Widths.{width_le}
 
 pub broader_next : (n t : ℕ) → 0 < t → broader_place n t + width_for n ≡ broader_place n (t + 1)
 broader_next n t pos =
@@ -22,5 +25,7 @@ pair_next n q = let w = width_for n in omega (arith, add-mul q 1 (2 * w), one-mu
 pub pair_within : (n p q : ℕ) → p ≤ q → pair_place n p ≤ pair_place n q
 pair_within n p q h = omega (arith, mul-le-mul_right (2 * width_for n) h)
 
-pub pairs_start : (n : ℕ) → pair_place n 0 ≡ broader_place n n
-pairs_start n = omega (arith, zero-mul (2 * width_for n))
+pub places_few : (n m : ℕ) → Counted n m → pair_place n m < 2 ^ 20
+places_few n m h =
+    let w = width_for n in
+    omega (arith, h.0, h.1, mul-le (n - 1) w 255 8 (omega arith) (width_le n), mul-le m (2 * w) 256 16 (omega (arith, h.1)) (omega (arith, width_le n)))

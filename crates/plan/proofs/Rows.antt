@@ -28,10 +28,10 @@ module _ {X : Type 0} (f : ℕ → X) (d : X) (low : ℕ) where
     before = λ u _. get_d_blank 256 u d;
   }
 
-  pub written_more : (i : ℕ) (xs : List X) (v : X) → Written f d low i xs → low ≤ i → i < 256 → v ≡ f i → Written f d low (i + 1) (set xs i v)
-  written_more i xs v w above fits is =
+  pub written_more : {i j : ℕ} {xs : List X} {v : X} → Written f d low i xs → low ≤ i → i < 256 → j ≡ i → v ≡ f i → Written f d low (i + 1) (set xs j v)
+  written_more {i} {j} {xs} {v} w above fits at is =
       let other : (u : ℕ) → u ≢ i → get_or (set xs i v) u d ≡ get_or xs u d = λ u ne. get_or-set_other xs i u v d ne in
-      record {
+      rw at (record {
         long = length-set xs i v ∙ w.long;
         here = λ u l h. ⊎_elim
             (λ e. subst (λ (k : ℕ). get_or (set xs i v) k d ≡ f k) (sym e) (get_or-set_same xs i v d (omega (arith, w.long)) ∙ is))
@@ -39,7 +39,7 @@ module _ {X : Type 0} (f : ℕ → X) (d : X) (low : ℕ) where
             (cases_eq u i);
         past = λ u l. other u (λ e. omega arith) ∙ w.past u (omega arith);
         before = λ u l. other u (λ e. omega arith) ∙ w.before u l;
-      }
+      })
 
 pub rooted_from : (bs b : List ℕ) (n : ℕ) → 1 ≤ n → Written (broader_in bs n) 0 1 n b → TreeBelow bs n n → Rooted n b
 rooted_from bs b n some w tree =

@@ -22,7 +22,7 @@ filled_row f d low (suc k) h =
     let i = low + k in
     let e : i + 1 ≡ low + suc k = omega arith in
     let xs = set r.0 i (f i) in
-    (xs, subst (λ n. Written f d low n xs) e (written_more f d low i r.0 (f i) r.1 (omega arith) (omega arith) refl))
+    (xs, subst (λ n. Written f d low n xs) e (written_more f d low r.1 (omega arith) (omega arith) refl refl))
 
 module _ (bs : List ℕ) where
   abbrev Read : Type 0

@@ -12,8 +12,9 @@ use Rattle.std.proofs.Common.{◌≡◌, ℕ, zero, suc, ◌<◌, ◌≤◌, [],
 use Rattle.std.specs.List.{slice_get}
 use Rattle.std.proofs.lemmas.List.{length-append, length-take-le, take_all, take-append-le}
 use Rattle.std.proofs.lemmas.Bool.{cases_eq}
+use Rattle.std.proofs.lemmas.Option.{slice_get_within}
 use Rattle.plan.specs.Tree.{Falls, way, way_within}
-use Rattle.plan.proofs.Members.{at_push, at_take, none_of_nil, within}
+use Rattle.plan.proofs.Members.{at_push, at_take, none_of_nil}
 
 module _ (up : ℕ → ℕ) (falls : Falls up) where
   climb_within : (P : ℕ → Type 0) → P 0 → ((t : ℕ) → 0 < t → P (up t) → P t) → (n t : ℕ) → t ≤ n → P t
@@ -63,13 +64,13 @@ module _ (up : ℕ → ℕ) (falls : Falls up) where
       (λ t pos below k x e.
       let w = way up (up t) in
       ⊎_elim
-      (λ h. below k x h ∙ sym (ap (take (suc k)) (way_more t pos) ∙ take-append-le (suc k) w (t ∷ []) (within w k x h)))
+      (λ h. below k x h ∙ sym (ap (take (suc k)) (way_more t pos) ∙ take-append-le (suc k) w (t ∷ []) (slice_get_within w k x h)))
       (λ h. ap (way up) h.1 ∙ sym (take_all (suc k) (way up t) (rw (way_more t pos) (rw length-append (omega (arith, h.0))))))
       (at_push w t k x (rw (way_more t pos) at e)))
 
   -- the depth of a link is one more than its place on any way
   pub depth_at : (t k x : ℕ) → slice_get (way up t) k ≡ Some x → length (way up x) ≡ suc k
-  depth_at t k x e = ap length (way_front t k x e) ∙ length-take-le (suc k) (way up t) (within (way up t) k x e)
+  depth_at t k x e = ap length (way_front t k x e) ∙ length-take-le (suc k) (way up t) (slice_get_within (way up t) k x e)
 
   -- a link stands at the same place on all ways that hold it, and the ways are the same down to it
   pub same_place : (s t j k x : ℕ) → slice_get (way up s) j ≡ Some x → slice_get (way up t) k ≡ Some x → j ≡ k

@@ -1,37 +1,45 @@
--- The width of a field that holds a term: one width after the other is tried.
---     width_start    from 0 on
---     width_here     a width that is enough is the one
---     width_next     one that is too small is passed over
---     width_last     the eighth is always enough
---     width_enough   the width for n terms is enough for each of them
+-- The width of a field that holds a term.
 --     shl_is         what `1 << w` is in sixteen bits
-use Rattle.std.proofs.Common.{◌≡◌, ℕ, zero, suc, ◌+◌, ◌-◌, ◌*◌, ◌%◌, ◌^◌, ◌<◌, ◌≤◌, leb, sym, refl, subst, ⊎_elim, arith}
+--     width_found    the width is the first, of those tried from 0 on, that is enough, and else 8
+--     width_le       the width is at most 8
+--     width_enough   the width for n terms is enough for each of them
+use Rattle.std.proofs.Common.{◌≡◌, ℕ, zero, suc, ◌+◌, ◌*◌, ◌%◌, ◌^◌, ◌<◌, ◌≤◌, leb, sym, subst, ⊎_elim, add-zero, arith}
+use Rattle.std.specs.List.{find, range_with_len}
+use Rattle.std.specs.Option.{unwrap_or}
 use Rattle.std.proofs.lemmas.Nat.{one_shl}
 use Rattle.std.proofs.lemmas.Bool.{cases_lt, cond-true, cond-false, le-leb, lt-leb}
 use Rattle.plan.specs.Layout.{width_for, width_from}
 
-pub width_start : (n : ℕ) → width_from 8 0 n ≡ width_for n
-unfolding width_for
-width_start n = refl
-
-module _ (w n : ℕ) (h : w < 8) where
-  left_more : 8 - w ≡ suc (8 - (w + 1))
-  left_more = omega arith
-
-  pub width_here : n ≤ 2 ^ w → width_from (8 - w) w n ≡ w
-  unfolding width_from
-  width_here k = rw left_more (cond-true _ _ _ (le-leb n (2 ^ w) k))
-
-  pub width_next : 2 ^ w < n → width_from (8 - w) w n ≡ width_from (8 - (w + 1)) (w + 1) n
-  unfolding width_from
-  width_next k = rw left_more (cond-false _ _ _ (lt-leb n (2 ^ w) k))
-
-pub width_last : (w n : ℕ) → w ≡ 8 → width_from (8 - w) w n ≡ 8
-unfolding width_from
-width_last w n e = rw e
-
-pub shl_is : (w : ℕ) → w < 8 → (1 * 2 ^ w) % 2 ^ 16 ≡ 2 ^ w
+shl_is : (w : ℕ) → w < 8 → (1 * 2 ^ w) % 2 ^ 16 ≡ 2 ^ w
 shl_is w h = one_shl w 16 (omega arith)
+
+-- `more` widths are left to try, from w on
+found_from : (more w n : ℕ) → w + more ≤ 8 → unwrap_or (find (λ k. leb n ((1 * 2 ^ k) % 2 ^ 16)) (range_with_len w more)) (w + more) ≡ width_from more w n
+unfolding width_from
+found_from zero w n h = add-zero w
+found_from (suc more) w n h =
+    let e : w + suc more ≡ w + 1 + more = omega arith in
+    rw (shl_is w (omega arith)) (⊎_elim
+    (λ less. rw (lt-leb n (2 ^ w) less) (rw e (found_from more (w + 1) n (omega arith))))
+    (λ le. rw (le-leb n (2 ^ w) le))
+    (cases_lt (2 ^ w) n))
+
+pub width_found : (n : ℕ) → unwrap_or (find (λ k. leb n ((1 * 2 ^ k) % 2 ^ 16)) (range_with_len 0 8)) 8 ≡ width_for n
+unfolding width_for
+width_found n = found_from 8 0 n (omega arith)
+
+le_from : (more w n : ℕ) → width_from more w n ≤ w + more
+unfolding width_from
+le_from zero w n = omega arith
+le_from (suc more) w n =
+    ⊎_elim
+    (λ less. rw (lt-leb n (2 ^ w) less) (omega (arith, le_from more (w + 1) n)))
+    (λ le. rw (le-leb n (2 ^ w) le) (omega arith))
+    (cases_lt (2 ^ w) n)
+
+pub width_le : (n : ℕ) → width_for n ≤ 8
+unfolding width_for
+width_le n = le_from 8 0 n
 
 enough_from : (more w n : ℕ) → n ≤ 2 ^ (w + more) → n ≤ 2 ^ width_from more w n
 unfolding width_from

@@ -1,6 +1,6 @@
 // Reads numbers from lent bytes, bit by bit, the most significant bit of each byte first.
-ghost use Rattle.std.specs.Prelude.{◌≡◌, ℕ, ◌+◌, ◌*◌, ◌^◌, ◌<◌, ◌≤◌, length, MatchResult};
-ghost use Rattle.plan.specs.Bits.{bit_at, field_at, Filled, Surplus};
+ghost use Rattle.std.specs.Prelude.{◌≡◌, ℕ, ◌+◌, ◌*◌, ◌^◌, ◌<◌, ◌≤◌, length, MatchOption, MatchResult};
+ghost use Rattle.plan.specs.Bits.{bit_at, field_at, Filled, Surplus, Zeros};
 
 use crate::fault::BitsFault;
 
@@ -22,7 +22,7 @@ impl<'a> BitReader<'a> {
         requires { i < 8 * length self.now.bytes.now }
         ensures { result ≡ bit_at self.now.bytes.now i }
     {
-        (self.bytes[i / 8] as u16 >> (7 - i % 8)) % 2
+        (u16::from(self.bytes[i / 8]) >> (7 - i % 8)) % 2
     }
 
     // Whether the bytes hold `end` bits.
@@ -45,12 +45,17 @@ impl<'a> BitReader<'a> {
     {
         let end = self.at + width;
         self.reach(end)?;
-        let mut value = 0;
-        for i in 0..width {
-            value = value * 2 + self.bit(self.at + i);
-        }
+        let value = (self.at..end).fold(0, |value, i| (value << 1) | self.bit(i));
         self.at = end;
         Ok(value)
+    }
+
+    // The first bit that is set, from the place up to `end`.
+    fn first_set(&self, end: usize) -> Option<usize>
+        requires { end ≤ 8 * length self.now.bytes.now }
+        ensures { MatchOption result (Zeros self.now.bytes.now self.now.at end) (λ i. (self.now.at ≤ i) × (i < end) × (bit_at self.now.bytes.now i ≡ 1) × Zeros self.now.bytes.now self.now.at i) }
+    {
+        (self.at..end).find(|i| self.bit(*i) != 0)
     }
 
     // Nothing but zero bits up to the next whole byte, and no byte behind it.
@@ -59,11 +64,9 @@ impl<'a> BitReader<'a> {
         requires within { self.now.at ≤ 8 * length self.now.bytes.now }
         ensures { MatchResult result (λ _. Filled self.now.bytes.now self.now.at) (λ e. (i : ℕ) × (e ≡ BitsFault.Surplus i) × Surplus self.now.bytes.now self.now.at i) }
     {
-        let end = (self.at + 7) / 8 * 8;
-        for i in self.at..end {
-            if self.bit(i) != 0 {
-                return Err(BitsFault::Surplus(i));
-            }
+        let end = self.at.next_multiple_of(8);
+        if let Some(i) = self.first_set(end) {
+            return Err(BitsFault::Surplus(i));
         }
         if end / 8 < self.bytes.len() {
             return Err(BitsFault::Surplus(end));

@@ -1,6 +1,5 @@
-// The fresh plan, and what a plan answers of itself.
-ghost use Rattle.std.specs.Prelude.{◌≡◌, ℕ, ◌<◌, MatchOption};
-ghost use Rattle.plan.specs.Plans.{IsFresh, broader_of, ends_of};
+// The plan that is there before any file is read.
+ghost use Rattle.plan.specs.Plans.{IsFresh};
 
 use crate::shape::Plan;
 

@@ -2,12 +2,16 @@
 #![tactic(auto)]
 
 mod bit_writer;
+mod bit_writing;
 mod bits;
+mod climb;
 mod fault;
 mod fresh;
+mod header;
 mod packing;
 mod promises;
 mod reading;
+mod refusal;
 mod refusals;
 mod shape;
 mod tree;
@@ -16,4 +20,5 @@ pub use fault::{BitsFault, PlanFault};
 pub use promises::{
     each_file_is_one, packed_reads_back, read_is_packed, roads_separate, roads_turn, samples_pack,
 };
+pub use refusal::Refusal;
 pub use shape::Plan;

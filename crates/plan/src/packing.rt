@@ -1,60 +1,59 @@
 // Writes a plan as its packed bytes.
-ghost use Rattle.std.specs.Prelude.{◌≡◌, ℕ, ◌+◌, ◌-◌, ◌*◌, ◌^◌, ◌<◌, ◌≤◌, ◌++◌, length, drop};
-ghost use Rattle.plan.specs.Bits.{whole_bytes};
-ghost use Rattle.plan.specs.Layout.{broader_place, pair_place, width_for};
+ghost use Rattle.std.specs.Prelude.{◌≡◌, ◌-◌, ◌*◌, ◌≤◌, ◌++◌, length, drop};
+ghost use Rattle.plan.specs.Layout.{width_for};
 ghost use Rattle.plan.specs.Packed.{end_fields, field_bits, head_fields, packed, term_fields};
 ghost use Rattle.plan.specs.Plans.{broader_of, ends_of};
-ghost use Rattle.plan.specs.Writes.{Packs, Wrote};
+ghost use Rattle.plan.specs.Writes.{Packs, Room, Wrote};
 ghost use Rattle.std.specs.List.{flat_map};
 
 use crate::bit_writer::BitWriter;
 use crate::fault::BitsFault;
-use crate::reading::{bits_for, width_for};
+use crate::header::Header;
 use crate::shape::Plan;
 
+impl Header {
+    // The three numbers, in the order of the file.
+    fn write(self, bits: &mut BitWriter)
+        requires { Room bits.old 26 }
+        ensures { Wrote bits.old bits.new (flat_map field_bits (head_fields self.terms self.pairs self.budget)) }
+    {
+        bits.field(9, self.terms);
+        bits.field(9, self.pairs);
+        bits.field(8, u16::from(self.budget));
+    }
+}
+
 impl Plan {
-    // The numbers of the header, in the order of the file.
-    fn header(&self) -> (u16, u16, u16)
-        ensures terms { result.0 ≡ self.now.terms }
-        ensures pairs { result.1 ≡ self.now.pairs }
-        ensures budget { result.2 ≡ self.now.budget }
+    // What stands in front of the packed plan.
+    fn header(&self) -> Header
+        ensures terms { result.terms ≡ self.now.terms }
+        ensures pairs { result.pairs ≡ self.now.pairs }
+        ensures budget { result.budget ≡ self.now.budget }
     {
-        (self.terms, self.pairs, u16::from(self.budget))
+        Header {
+            terms: self.terms,
+            pairs: self.pairs,
+            budget: self.budget,
+        }
     }
 
-    fn write_header(&self, bits: &mut BitWriter)
-        requires place { bits.old.at ≡ 0 }
-        requires within { 26 ≤ 8 * length bits.old.bytes.now }
-        ensures wrote { Wrote bits.old.bytes.now bits.old.at bits.new.bytes.now bits.new.at (flat_map field_bits (head_fields self.now.terms self.now.pairs self.now.budget)) }
-        ensures same { bits.new.bytes.ghost_name ≡ bits.old.bytes.ghost_name }
-    {
-        let (terms, pairs, budget) = self.header();
-        bits.field(9, terms);
-        bits.field(9, pairs);
-        bits.field(8, budget);
-    }
-
+    // The broader terms, from that of term 1 on.
     fn write_broader(&self, bits: &mut BitWriter)
-        requires place { bits.old.at ≡ broader_place self.now.terms 1 }
-        requires early { broader_place self.now.terms self.now.terms < 2 ^ 20 }
-        requires within { broader_place self.now.terms self.now.terms ≤ 8 * length bits.old.bytes.now }
-        ensures wrote { Wrote bits.old.bytes.now bits.old.at bits.new.bytes.now bits.new.at (flat_map field_bits (term_fields (width_for self.now.terms) (broader_of self.now) (self.now.terms - 1))) }
-        ensures same { bits.new.bytes.ghost_name ≡ bits.old.bytes.ghost_name }
+        requires { Room bits.old ((self.now.terms - 1) * width_for self.now.terms) }
+        ensures { Wrote bits.old bits.new (flat_map field_bits (term_fields (width_for self.now.terms) (broader_of self.now) (self.now.terms - 1))) }
     {
-        let width = width_for(self.terms);
+        let width = self.header().width();
         for t in 1..self.terms {
             bits.field(width, self.broader(t));
         }
     }
 
+    // The two terms of each pair.
     fn write_pairs(&self, bits: &mut BitWriter)
-        requires place { bits.old.at ≡ pair_place self.now.terms 0 }
-        requires early { pair_place self.now.terms self.now.pairs < 2 ^ 20 }
-        requires within { pair_place self.now.terms self.now.pairs ≤ 8 * length bits.old.bytes.now }
-        ensures wrote { Wrote bits.old.bytes.now bits.old.at bits.new.bytes.now bits.new.at (flat_map field_bits (end_fields (width_for self.now.terms) (ends_of self.now) self.now.pairs)) }
-        ensures same { bits.new.bytes.ghost_name ≡ bits.old.bytes.ghost_name }
+        requires { Room bits.old (self.now.pairs * (2 * width_for self.now.terms)) }
+        ensures { Wrote bits.old bits.new (flat_map field_bits (end_fields (width_for self.now.terms) (ends_of self.now) self.now.pairs)) }
     {
-        let width = width_for(self.terms);
+        let width = self.header().width();
         for q in 0..self.pairs {
             let (first, second) = self.ends(q);
             bits.field(width, first);
@@ -64,21 +63,18 @@ impl Plan {
 
     // How many bytes the packed plan takes.
     fn packed_len(&self) -> usize
-        ensures bytes { result ≡ length (packed self.now) }
-        ensures bits { result ≡ whole_bytes (pair_place self.now.terms self.now.pairs) }
-        ensures early { pair_place self.now.terms self.now.pairs < 2 ^ 20 }
+        ensures { result ≡ length (packed self.now) }
     {
-        bits_for(self.terms, self.pairs).div_ceil(8)
+        self.header().bits().div_ceil(8)
     }
 
     // The packed bytes in front of a buffer that has room for them.
     fn write_packed(&self, out: &mut [u8])
-        requires early { pair_place self.now.terms self.now.pairs < 2 ^ 20 }
-        requires room { whole_bytes (pair_place self.now.terms self.now.pairs) ≤ length out.old }
+        requires { length (packed self.now) ≤ length out.old }
         ensures { out.new ≡ packed self.now ++ drop (length (packed self.now)) out.old }
     {
         let mut bits = BitWriter { bytes: out, at: 0 };
-        self.write_header(&mut bits);
+        self.header().write(&mut bits);
         self.write_broader(&mut bits);
         self.write_pairs(&mut bits);
     }

@@ -1,13 +1,15 @@
-// The number and the place that a refusal is reported by.
+// The number and the place that a fault of the bits or of the plan is reported by.
 ghost use Rattle.plan.specs.Refusals.{bits_number, bits_place, plan_number, plan_place};
-ghost use Rattle.std.specs.Prelude.{◌≡◌};
 
 use crate::fault::{BitsFault, PlanFault};
+use crate::refusal::Refusal;
 
-impl BitsFault {
-    pub fn number(self) -> u8
-        ensures { result ≡ bits_number self }
-    {
+impl Refusal for BitsFault {
+    ghost number_of = { bits_number };
+
+    ghost place_of = { bits_place };
+
+    fn number(self) -> u8 {
         match self {
             BitsFault::EndsEarly(_) => 1,
             BitsFault::Surplus(_) => 5,
@@ -15,9 +17,7 @@ impl BitsFault {
         }
     }
 
-    pub fn place(self) -> usize
-        ensures { result ≡ bits_place self }
-    {
+    fn place(self) -> usize {
         match self {
             BitsFault::EndsEarly(bits) => bits,
             BitsFault::Surplus(bit) => bit,
@@ -26,10 +26,12 @@ impl BitsFault {
     }
 }
 
-impl PlanFault {
-    pub fn number(self) -> u8
-        ensures { result ≡ plan_number self }
-    {
+impl Refusal for PlanFault {
+    ghost number_of = { plan_number };
+
+    ghost place_of = { plan_place };
+
+    fn number(self) -> u8 {
         match self {
             PlanFault::Bits(fault) => fault.number(),
             PlanFault::TermCount | PlanFault::PairCount => 2,
@@ -38,9 +40,7 @@ impl PlanFault {
         }
     }
 
-    pub fn place(self) -> usize
-        ensures { result ≡ plan_place self }
-    {
+    fn place(self) -> usize {
         match self {
             PlanFault::Bits(fault) => fault.place(),
             PlanFault::TermCount => 0,

@@ -1,5 +1,4 @@
 // What a plan holds, and what holds of every plan.
-ghost use Rattle.std.specs.Prelude.{ℕ, ◌<◌, ◌≤◌};
 ghost use Rattle.plan.specs.Shape.{Counted, Paired, Rooted, Stored, Unpaired};
 
 // A tree of terms, the pairs of terms to separate, and a budget: an instance of Multicut in Trees.

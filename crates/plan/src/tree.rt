@@ -1,9 +1,10 @@
 // The tree of a plan, asked by following broader terms: depths, ancestors, turning terms.
-ghost use Rattle.std.specs.Prelude.{◌≡◌, ℕ, ◌<◌, ◌≤◌, length};
+ghost use Rattle.std.specs.Prelude.{◌≡◌, ◌<◌, ◌≤◌, length};
 ghost use Rattle.plan.specs.Plans.{broader_of, ends_of};
 ghost use Rattle.plan.specs.Tree.{among, rank, way};
 ghost use Rattle.std.specs.List.{slice_get};
 
+use crate::climb::Climb;
 use crate::shape::Plan;
 
 impl Plan {
@@ -32,10 +33,7 @@ impl Plan {
     pub fn ends(&self, pair: u16) -> (u16, u16)
         ensures { (result.0 ≡ (ends_of self.now pair).0) × (result.1 ≡ (ends_of self.now pair).1) }
     {
-        if pair >= 256 {
-            return (0, 0);
-        }
-        let (first, second) = self.ends[pair as usize];
+        let (first, second) = self.ends.get(usize::from(pair)).copied().unwrap_or((0, 0));
         (u16::from(first), u16::from(second))
     }
 
@@ -44,10 +42,8 @@ impl Plan {
         ensures value { result ≡ broader_of self.now term }
         ensures falls { 0 < term → result < term }
     {
-        if term >= 256 {
-            return 0;
-        }
-        u16::from(self.broader[term as usize])
+        let above = self.broader.get(usize::from(term)).copied().unwrap_or(0);
+        u16::from(above)
     }
 
     // How many links lead from term 0 down to a term.
@@ -55,30 +51,23 @@ impl Plan {
         ensures value { result ≡ length (way (broader_of self.now) term) }
         ensures bound { result ≤ term }
     {
-        let mut t = term;
-        let mut depth = 0;
-        while t != 0 {
-            t = self.broader(t);
-            depth += 1;
-        }
-        depth
+        Climb::new(self, term).count() as u16
     }
 
     // Whether a link lies above a term: whether it is on the way from term 0 down to it.
     pub fn is_above(&self, link: u16, term: u16) -> bool
         ensures { result ≡ among link (way (broader_of self.now) term) }
     {
-        let mut higher = term;
-        while higher > link {
-            higher = self.broader(higher);
-        }
-        higher == link && link != 0
+        // the links fall on the way up, so the first that is not larger decides
+        Climb::new(self, term).find(|higher| *higher <= link) == Some(link)
     }
 
     // The number of links from term 0 down to the turning term of two terms, their lowest common ancestor.
     pub fn rank(&self, a: u16, b: u16) -> u16
         ensures { result ≡ rank (broader_of self.now) a b }
     {
+        // both climb, the larger each time, until they meet; to ask of each link on one way whether it is above the
+        // other term is plainer, but takes up to sixty times as long
         let mut s = a;
         let mut t = b;
         while s != t {
@@ -95,15 +84,10 @@ impl Plan {
     pub fn link_on_way(&self, term: u16, place: u16) -> Option<u16>
         ensures { result ≡ slice_get (way (broader_of self.now) term) place }
     {
-        let mut depth = self.depth(term);
+        let depth = self.depth(term);
         if place >= depth {
             return None;
         }
-        let mut t = term;
-        while depth > place + 1 {
-            t = self.broader(t);
-            depth -= 1;
-        }
-        Some(t)
+        Climb::new(self, term).nth(usize::from(depth - 1 - place))
     }
 }

@@ -3,7 +3,7 @@
 --     booked n k up ends        what a book tells of such a tree and such pairs
 --     sample_told               a plan that is the sample is told as this
 --     sample_cut                its rough cut
-use Rattle.std.proofs.Common.{◌≡◌, ℕ, zero, suc, ◌-◌, ◌&&◌, ltb, [], ◌∷◌, get_or, sym, refl, ap, ◌∙◌, subst, arith}
+use Rattle.std.proofs.Common.{◌≡◌, ℕ, ◌-◌, ◌&&◌, ltb, [], ◌∷◌, get_or, sym, refl, ap, ◌∙◌, subst, arith}
 use mathlib.Core.Path.{fun_ext}
 use Rattle.plan.specs.Plans.{broader_of, ends_of}
 use Rattle.plan.specs.Tree.{leg, rank, way, way_within}
@@ -32,29 +32,12 @@ sample_ends q = get_or ((3, 4) ∷ (4, 5) ∷ (5, 6) ∷ (1, 3) ∷ []) q (0, 0)
 abbrev sample : Meaning
 sample = booked 7 4 sample_up sample_ends
 
--- two of one kind
-both : (a b c d : ℕ) → a ≡ c → b ≡ d → ◌≡◌ {A = ℕ × ℕ} (a, b) (c, d)
-both a b c d e f = λ z. (e z, f z)
-
 module _ (p : Plan) (is : IsSample p) where
   up_at : (t : ℕ) → broader_of p t ≡ sample_up t
-  up_at zero = p.rooted.2
-  up_at (suc zero) = is.upper.0
-  up_at (suc (suc zero)) = is.upper.1
-  up_at (suc (suc (suc zero))) = is.lower.0
-  up_at (suc (suc (suc (suc zero)))) = is.lower.1
-  up_at (suc (suc (suc (suc (suc zero))))) = is.lower.2
-  up_at (suc (suc (suc (suc (suc (suc zero)))))) = is.lower.3
-  up_at (suc (suc (suc (suc (suc (suc (suc t))))))) = p.rooted.1 _ (omega (arith, is.terms))
+  up_at t = grind arith
 
   ends_at : (q : ℕ) → ends_of p q ≡ sample_ends q
-  ends_at zero = both _ _ 3 4 is.ends.0.0 is.ends.0.1
-  ends_at (suc zero) = both _ _ 4 5 is.ends.1.0 is.ends.1.1
-  ends_at (suc (suc zero)) = both _ _ 5 6 is.ends.2.0 is.ends.2.1
-  ends_at (suc (suc (suc zero))) = both _ _ 1 3 is.ends.3.0 is.ends.3.1
-  ends_at (suc (suc (suc (suc q)))) =
-      let none = p.unpaired (suc (suc (suc (suc q)))) (omega (arith, is.pairs)) in
-      both _ _ 0 0 none.0 none.1
+  ends_at q = grind arith
 
   sample_told : told p ≡ sample
   sample_told =

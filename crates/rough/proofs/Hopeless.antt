@@ -1,10 +1,9 @@
 -- A pair with an empty road is separated by no cut.
 --     empty_none      neither leg has a link, so no link is on the road
 --     lowest_empty    the lowest such pair, and that there is no cut
-use Rattle.std.proofs.Common.{◌≡◌, ℕ, true, false, ◌&&◌, ◌||◌, List, [], ◌∷◌, Some, refl, arith}
-use Rattle.std.proofs.lemmas.Bool.{and_parts, both_ways, or_from}
+use Rattle.std.proofs.Common.{◌≡◌, ℕ, true, ◌&&◌, Some, arith}
+use Rattle.std.proofs.lemmas.Bool.{and_parts}
 use Rattle.cuts.specs.Instances.{On, Open}
-use Rattle.plan.specs.Tree.{among}
 use Rattle.book.specs.Meaning.{Lawful, Meaning}
 use Rattle.book.specs.Posed.{posed}
 use Rattle.rough.proofs.Lowest.{lowest_some}
@@ -12,17 +11,9 @@ use Rattle.rough.proofs.Tops.{tops_meet}
 use Rattle.rough.specs.Outcome.{empty_road, lowest, no_link}
 use Rattle.rough.specs.Promise.{LowestEmpty}
 
-none_among : (l : ℕ) (xs : List ℕ) → no_link xs ≡ true → among l xs ≡ false
-none_among l [] e = refl
-none_among l (x ∷ xs) e = let z : ◌≡◌ {A = ℕ} 0 1 = cc in absurd (omega arith)
-
 module _ (m : Meaning) where
   pub empty_none : (p : ℕ) → empty_road m p ≡ true → (l : ℕ) → On (posed m) l p → ⊥
-  empty_none p e l on =
-      let legs = among l (m.first p) || among l (m.second p) in
-      let bare = and_parts (no_link (m.first p)) (no_link (m.second p)) (and_parts (m.opened p) (no_link (m.first p) && no_link (m.second p)) e).1 in
-      let there = (and_parts (m.opened p) legs (and_parts (m.live l) (m.opened p && legs) on).1).1 in
-      both_ways legs (or_from (among l (m.first p)) (among l (m.second p)) (none_among l (m.first p) bare.0) (none_among l (m.second p) bare.1)) there
+  empty_none p e l on = grind arith
 
   pub lowest_empty : Lawful m → (p : ℕ) → lowest (empty_road m) m.pairs ≡ Some p → LowestEmpty m p
   lowest_empty law p e =

@@ -1,9 +1,8 @@
 -- What a rough cut lays into the slices keeps its promise.
 --     no_empty     where no empty road is found, there is none
 --     promised     the promise, from the answer and the two slices
-use Rattle.std.proofs.Common.{◌≡◌, ℕ, false, cond, ltb, List, ◌++◌, length, take, drop, None, Ok, Err, sym, refl, ap, ◌∙◌, subst, ⊎_elim, arith}
+use Rattle.std.proofs.Common.{◌≡◌, ℕ, false, List, ◌++◌, length, take, drop, None, Ok, Err, sym, refl, ap, ◌∙◌, subst, arith}
 use Rattle.std.proofs.lemmas.List.{take_at}
-use Rattle.std.proofs.lemmas.Bool.{cases_Bool, cond-false, cond-true}
 use Rattle.cuts.specs.Instances.{Open}
 use Rattle.book.specs.Meaning.{Lawful, Meaning}
 use Rattle.book.specs.Posed.{posed}
@@ -19,37 +18,11 @@ pub no_empty : (m : Meaning) → Lawful m → lowest (empty_road m) m.pairs ≡ 
 no_empty m law e p o = lowest_none (empty_road m) m.pairs e p (law.opened_in p o)
 
 fitted_ok : (ls ps : List ℕ) (a b : ℕ) (c : ℕ × ℕ) → Ok c ≡ fitted ls ps a b → (c.0 ≡ length ls) × (c.1 ≡ length ps)
-fitted_ok ls ps a b c e =
-    let s = ltb a (length ls) in
-    let t = ltb b (length ps) in
-    let yes : Counts = Ok (length ls, length ps) in
-    let inner : Counts = cond t (Err (PairsBuffer (length ps))) yes in
-    ⊎_elim
-    (λ h. let f = e ∙ cond-true s (Err (LinksBuffer (length ls))) inner h in let z : ◌≡◌ {A = ℕ} 0 1 = cc in absurd (omega arith))
-    (λ h.
-    let f = e ∙ cond-false s (Err (LinksBuffer (length ls))) inner h in
-    ⊎_elim
-    (λ k. let d = f ∙ cond-true t (Err (PairsBuffer (length ps))) yes k in let z : ◌≡◌ {A = ℕ} 0 1 = cc in absurd (omega arith))
-    (λ k. let d = f ∙ cond-false t (Err (PairsBuffer (length ps))) yes k in let same : c ≡ (length ls, length ps) = cc in (ap (λ x. x.0) same, ap (λ x. x.1) same))
-    (cases_Bool t))
-    (cases_Bool s)
+fitted_ok ls ps a b c e = grind arith
 
 -- an empty road is not refused for its slices
 fitted_err : (ls ps : List ℕ) (a b p : ℕ) → Err (EmptyRoad p) ≡ fitted ls ps a b → ⊥
-fitted_err ls ps a b p e =
-    let s = ltb a (length ls) in
-    let t = ltb b (length ps) in
-    let whole : Counts = Ok (length ls, length ps) in
-    let inner : Counts = cond t (Err (PairsBuffer (length ps))) whole in
-    ⊎_elim
-    (λ h. let f = e ∙ cond-true s (Err (LinksBuffer (length ls))) inner h in let z : ◌≡◌ {A = ℕ} 0 1 = cc in omega arith)
-    (λ h.
-    let f = e ∙ cond-false s (Err (LinksBuffer (length ls))) inner h in
-    ⊎_elim
-    (λ k. let d = f ∙ cond-true t (Err (PairsBuffer (length ps))) whole k in let z : ◌≡◌ {A = ℕ} 0 1 = cc in omega arith)
-    (λ k. let d = f ∙ cond-false t (Err (PairsBuffer (length ps))) whole k in let z : ◌≡◌ {A = ℕ} 0 1 = cc in omega arith)
-    (cases_Bool t))
-    (cases_Bool s)
+fitted_err ls ps a b p e = grind arith
 
 -- the front of a slice into which a list was laid is that list
 front : (n : ℕ) (ls xs zs : List ℕ) → n ≡ length ls → zs ≡ ls ++ drop (length ls) xs → take n zs ≡ ls

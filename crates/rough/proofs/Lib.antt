@@ -13,7 +13,6 @@ pub mod Ordered
 pub mod Pairs
 pub mod Rising
 pub mod Room
-pub mod Somewhere
 pub mod Sorting
 pub mod Tops
 pub mod Turns

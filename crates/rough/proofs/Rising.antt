@@ -6,25 +6,17 @@
 --     rising_push       one number more that the set has
 --     rising_skip       and one that it has not
 --     rising_short      below n there are at most n
-use Rattle.std.proofs.Common.{◌≡◌, ℕ, zero, suc, ◌+◌, ◌<◌, ◌≤◌, true, false, eqb, List, [], ◌∷◌, ◌++◌, length, sym, refl, ap, ◌∙◌, subst, ⊎_elim, arith}
+use Rattle.std.proofs.Common.{◌≡◌, ℕ, zero, suc, ◌+◌, ◌<◌, ◌≤◌, true, false, eqb, [], ◌∷◌, ◌++◌, length, sym, refl, ap, ◌∙◌, subst, ⊎_elim, arith}
 use Rattle.std.specs.List.{AllByRecursion}
 use Rattle.std.proofs.ByRecursion.{All-push, All-weaker}
 use Rattle.std.proofs.lemmas.List.{length_push}
-use Rattle.std.proofs.lemmas.Bool.{cases_Bool, cases_eq, cond_both, cond-false, cond-true, eq-eqb, or_cases, or_left, or_right}
+use Rattle.std.proofs.lemmas.Bool.{cases_Bool, cases_eq, cond_both, cond-false, cond-true, eq-eqb, or_left, or_right}
 use Rattle.cuts.specs.Links.{Links, count}
 use Rattle.cuts.specs.Rules.{Pairwise}
+use Rattle.plan.proofs.Climbs.{among_push}
 use Rattle.plan.specs.Tree.{among}
 use Rattle.rough.proofs.Pairs.{pairwise_push}
 use Rattle.rough.specs.Run.{rising}
-
-among_pushed : (q x : ℕ) (ys : List ℕ) → among q ys ≡ true → among q (ys ++ (x ∷ [])) ≡ true
-among_pushed q x [] e = let z : ◌≡◌ {A = ℕ} 0 1 = cc in absurd (omega arith)
-among_pushed q x (y ∷ ys) e =
-    ⊎_elim (or_left (eqb q y) (among q (ys ++ (x ∷ [])))) (λ h. or_right (eqb q y) (among q (ys ++ (x ∷ []))) (among_pushed q x ys h)) (or_cases (eqb q y) (among q ys) e)
-
-among_last : (q : ℕ) (ys : List ℕ) → among q (ys ++ (q ∷ [])) ≡ true
-among_last q [] = or_left (eqb q q) false (eq-eqb q q refl)
-among_last q (y ∷ ys) = or_right (eqb q y) (among q (ys ++ (q ∷ []))) (among_last q ys)
 
 module _ (s : Links) where
   pub all_rising : (n : ℕ) → AllByRecursion (λ x. (x < n) × (s x ≡ true)) (rising s n)
@@ -43,11 +35,11 @@ module _ (s : Links) where
       (λ is.
       let here : s n ≡ true = ap s (sym is) ∙ e in
       ap (among x) (cond-true (s n) (rising s n ++ (n ∷ [])) (rising s n) here) ∙
-      subst (λ y. among x (rising s n ++ (y ∷ [])) ≡ true) is (among_last x (rising s n)))
+      subst (λ y. among x (rising s n ++ (y ∷ [])) ≡ true) is (among_push x (rising s n) x ∙ or_right (among x (rising s n)) (eqb x x) (eq-eqb x x refl)))
       (λ ne.
       let more : among x (rising s n) ≡ true = among_rising n x (omega (arith, ne)) e in
       cond_both (s n) (rising s n ++ (n ∷ [])) (rising s n) (λ xs. among x xs ≡ true)
-      (λ _. among_pushed x n (rising s n) more)
+      (λ _. among_push x (rising s n) n ∙ or_left (among x (rising s n)) (eqb x n) more)
       (λ _. more))
       (cases_eq x n)
 

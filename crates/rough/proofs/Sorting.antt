@@ -5,10 +5,10 @@
 --     sorted_next                 the first under the order is its head, and what is left is sorted behind it
 --     sorted_done                 where there is no first, nothing is left
 --     sorted_only                 any list of just these numbers, each before those behind, is the sorted one
-use Rattle.std.proofs.Common.{◌≡◌, ℕ, zero, suc, ◌<◌, ◌≤◌, Bool, true, false, cond, not, ◌||◌, eqb, List, [], ◌∷◌, length, Some, None, sym, refl, ap, ◌∙◌, subst, ⊎_elim, arith}
+use Rattle.std.proofs.Common.{◌≡◌, ℕ, zero, suc, ◌<◌, ◌≤◌, Bool, true, false, cond, ◌||◌, eqb, List, [], ◌∷◌, length, Some, None, sym, refl, ap, ◌∙◌, subst, ⊎_elim, arith}
 use Rattle.std.specs.List.{slice_get, AllByRecursion}
 use Rattle.std.proofs.ByRecursion.{All-weaker}
-use Rattle.std.proofs.lemmas.Bool.{and_left, both_ways, cases_Bool, cases_eq, cond_both, cond-false, cond-true, eq-eqb, eqb-true, or_cases, or_left, or_right}
+use Rattle.std.proofs.lemmas.Bool.{both_ways, cases_Bool, cases_eq, cond_both, cond-false, cond-true, eq-eqb, eqb-true, or_cases, or_left, or_right}
 use Rattle.cuts.specs.Links.{less}
 use Rattle.cuts.specs.Rules.{Pairwise}
 use Rattle.cuts.proofs.Counting.{less_from, less_in, less_other}
@@ -61,10 +61,7 @@ module _ (b : ℕ → ℕ → Bool) where
       (λ _. omega arith)
 
   swapped : (x y z : Bool) → (x || (y || z)) ≡ (y || (x || z))
-  swapped true true z = refl
-  swapped true false z = refl
-  swapped false true z = refl
-  swapped false false z = refl
+  swapped x y z = grind arith
 
   among_insert : (q x : ℕ) (ys : List ℕ) → among q (insert b x ys) ≡ (eqb q x || among q ys)
   among_insert q x [] = refl
@@ -103,11 +100,7 @@ module _ (b : ℕ → ℕ → Bool) where
   insert_front x (y ∷ ys) (h, _) = cond-true (b x y) (x ∷ y ∷ ys) (y ∷ insert b x ys) h
 
   less_others : (f : ℕ → Bool) (p q : ℕ) → (q ≡ p → ⊥) → less f p q ≡ f q
-  less_others f p q ne =
-      ⊎_elim
-      (λ e. less_from f p q e ne ∙ sym e)
-      (λ e. and_left (f q) (not (eqb q p)) e ∙ sym e)
-      (cases_Bool (f q))
+  less_others f p q ne = grind arith
 
   less_itself : (f : ℕ → Bool) (p : ℕ) → less f p p ≡ false
   less_itself f p = ⊎_elim (λ e. absurd (less_other f p p e refl)) (λ e. e) (cases_Bool (less f p p))

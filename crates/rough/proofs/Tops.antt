@@ -6,11 +6,11 @@
 --     tops_few         and at most two
 --     tops_meet        they meet their own pair, if its road is not empty
 --     tops_apart       a pair whose rank is not the greater, and that no top of another meets, shares no link with it
-use Rattle.std.proofs.Common.{◌≡◌, ℕ, ◌≤◌, true, false, ◌&&◌, ◌||◌, List, [], ◌∷◌, Some, sym, refl, ap, ⊎_elim, zero-le, arith}
+use Rattle.std.proofs.Common.{◌≡◌, ℕ, ◌≤◌, true, false, ◌&&◌, ◌||◌, List, [], ◌∷◌, Some, refl, ⊎_elim, zero-le, arith}
 use mathlib.Core.Bool.{or_assoc}
 use mathlib.Core.Path.{fun_ext}
 use Rattle.std.specs.List.{slice_get}
-use Rattle.std.proofs.lemmas.Bool.{and_cases, and_from, and_parts, both_ways, cond-true, eq-eqb, eqb-true, or_cases, or_left, or_right}
+use Rattle.std.proofs.lemmas.Bool.{and_cases, and_from, and_parts, both_ways, cond-true, or_cases, or_left, or_right}
 use Rattle.cuts.specs.Instances.{Live, Met, On, Open, size}
 use Rattle.cuts.specs.Links.{In, Links, count, union}
 use Rattle.cuts.specs.Rules.{Never, Share}
@@ -24,13 +24,8 @@ use Rattle.book.specs.declared.leg.Leg.TheVariants.{First, Second}
 use Rattle.rough.specs.Outcome.{empty_road, no_link}
 use Rattle.rough.specs.Run.{top, with_tops}
 
-head_top : (xs : List ℕ) (x : ℕ) → slice_get xs 0 ≡ Some x → top xs x ≡ true
-head_top [] x e = absurd (none_of_nil 0 x e)
-head_top (y ∷ ys) x e = let s : x ≡ y = cc in eq-eqb x y s
-
 top_head : (xs : List ℕ) (x : ℕ) → top xs x ≡ true → slice_get xs 0 ≡ Some x
-top_head [] x e = let z : ◌≡◌ {A = ℕ} 0 1 = cc in absurd (omega arith)
-top_head (y ∷ ys) x e = ap Some (sym (eqb-true x y e))
+top_head ls x e = grind arith
 
 -- a list that has anything has a head
 some_head : (xs : List ℕ) (j x : ℕ) → slice_get xs j ≡ Some x → (y : ℕ) × (slice_get xs 0 ≡ Some y)
@@ -54,8 +49,7 @@ with_tops_lem m s p = fun_ext (λ x. or_assoc (s x) (top (m.first p) x) (top (m.
 
 module _ (m : Meaning) where
   pub head_is_top : (s : Leg) (p x : ℕ) → slice_get (leg_of m s p) 0 ≡ Some x → In (tops m p) x
-  head_is_top First p x e = or_left (top (m.first p) x) (top (m.second p) x) (head_top (m.first p) x e)
-  head_is_top Second p x e = or_right (top (m.first p) x) (top (m.second p) x) (head_top (m.second p) x e)
+  head_is_top s p x e = grind arith
 
   module _ (law : Lawful m) where
     pub tops_live : (p x : ℕ) → Open (posed m) p → In (tops m p) x → Live (posed m) x

@@ -1,13 +1,11 @@
 -- One turn through the pairs that are left, by the arrays.
 --     same_gone        what has the same links and pairs has come as far
---     listed_long      a list is as long as its count
 --     taken_up         a turn, by what it does to the links and to the pairs
 --     take_up_longer   a turn writes at most one pair down
 --     first_order      at first the pairs left are the open ones in order
 --     next_turn        the first of the pairs left, and what is left behind it
-use Rattle.std.proofs.Common.{◌≡◌, ℕ, ◌+◌, ◌<◌, ◌≤◌, Bool, true, false, cond, List, [], ◌∷◌, ◌++◌, length, set, Some, sym, refl, ap, ◌∙◌, arith}
-use mathlib.Core.Path.{fun_ext}
-use Rattle.std.proofs.lemmas.List.{length_push, length-take-le}
+use Rattle.std.proofs.Common.{◌≡◌, ℕ, ◌+◌, ◌<◌, ◌≤◌, Bool, true, false, cond, List, [], ◌∷◌, ◌++◌, length, set, Some, sym, ap, ◌∙◌, arith}
+use Rattle.std.proofs.lemmas.List.{length_push}
 use Rattle.std.proofs.lemmas.Bool.{cond_both}
 use Rattle.cuts.specs.Search.{meets}
 use Rattle.book.specs.Meaning.{Lawful, Meaning, rank_at}
@@ -15,28 +13,18 @@ use Rattle.book.specs.Posed.{posed}
 use Rattle.rough.proofs.Earlier.{earlier_not, earlier_other, earlier_through}
 use Rattle.rough.proofs.Marking.{held_less}
 use Rattle.rough.proofs.Sorting.{sorted_next}
-use Rattle.rough.specs.Arrays.{held, listed, numbered}
+use Rattle.rough.specs.Arrays.{held, numbered}
 use Rattle.rough.specs.Order.{earlier, first_of, in_order, sorted}
 use Rattle.rough.specs.Run.{Gone, take_up, with_tops, written_down}
-use Rattle.rough.specs.declared.listed.Listed.{Listed}
 
 pub same_gone : (g h : Gone) → g.chosen ≡ h.chosen → g.apart ≡ h.apart → g ≡ h
 same_gone g h e f = λ z. record { chosen = e z; apart = f z }
-
-cond_apply : {X : Type 0} (k : Gone → X) (t : Bool) (g h : Gone) → k (cond t g h) ≡ cond t (k g) (k h)
-cond_apply k true g h = refl
-cond_apply k false g h = refl
-
-pub listed_long : (a : Listed) → length (listed a) ≡ a.count
-listed_long a = length-take-le a.count a.items (omega (arith, a.sized, a.few))
 
 -- the links and the pairs after a turn, apart from each other
 pub taken_up :
     (m : Meaning) (g h : Gone) (p : ℕ) → h.chosen ≡ cond (meets (posed m) g.chosen p) g.chosen (with_tops m g.chosen p) →
     h.apart ≡ cond (meets (posed m) g.chosen p) g.apart (g.apart ++ (p ∷ [])) → h ≡ take_up m g p
-taken_up m g h p e f =
-    let t = meets (posed m) g.chosen p in
-    same_gone h (take_up m g p) (e ∙ sym (cond_apply (λ k. k.chosen) t g (written_down m g p))) (f ∙ sym (cond_apply (λ k. k.apart) t g (written_down m g p)))
+taken_up m g h p e f = grind arith
 
 pub take_up_longer : (m : Meaning) (g : Gone) (p : ℕ) → length (take_up m g p).apart ≤ length g.apart + 1
 take_up_longer m g p =
@@ -47,8 +35,7 @@ take_up_longer m g p =
 pub first_order :
     (m : Meaning) (ranks : List ℕ) (left : List Bool) → ((p : ℕ) → numbered ranks p ≡ rank_at m p) → ((p : ℕ) → held left p ≡ m.opened p) →
     sorted (earlier (numbered ranks)) (held left) m.pairs ≡ in_order m
-first_order m ranks left e f =
-    ap (λ r. sorted (earlier r) (held left) m.pairs) (fun_ext e) ∙ ap (λ s. sorted (earlier (rank_at m)) s m.pairs) (fun_ext f)
+first_order m ranks left e f = grind arith
 
 pub next_turn :
     (m : Meaning) → Lawful m → (ranks : List ℕ) (left : List Bool) (n p : ℕ) → n ≡ m.pairs → length left ≡ 256 →

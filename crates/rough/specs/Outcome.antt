@@ -4,7 +4,8 @@
 --     answer m a b      the answer where the slice for links has a places and that for pairs b
 --     roomy_answer m    the answer where both slices have room
 --     laid r xs ys      a slice that held ys: the elements xs followed by what stood behind, or ys where r is a refusal
-use Rattle.std.specs.Prelude.{ℕ, zero, suc, Bool, true, false, cond, ◌&&◌, List, [], ◌∷◌, ◌++◌, length, drop, Some, None, Ok, Err, Option, Result, nat_lt}
+use Rattle.std.specs.List.{find, range_with_len}
+use Rattle.std.specs.Prelude.{ℕ, Bool, true, false, cond, ◌&&◌, List, [], ◌∷◌, ◌++◌, length, drop, Some, None, Ok, Err, Option, Result, nat_lt}
 use Rattle.book.specs.Meaning.{Meaning}
 use Rattle.rough.specs.Run.{apart_of, links_of}
 use Rattle.rough.specs.declared.fault.RoughFault.{RoughFault}
@@ -20,14 +21,8 @@ no_link (x ∷ xs) = false
 abbrev pub empty_road : Meaning → ℕ → Bool
 empty_road m p = m.opened p && (no_link (m.first p) && no_link (m.second p))
 
--- the one found, or n where f has it
-abbrev pub found_or : Option ℕ → Bool → ℕ → Option ℕ
-found_or (Some p) b n = Some p
-found_or None b n = cond b (Some n) None
-
 abbrev pub lowest : (ℕ → Bool) → ℕ → Option ℕ
-lowest f zero = None
-lowest f (suc n) = found_or (lowest f n) (f n) n
+lowest f n = find f (range_with_len 0 n)
 
 -- the links ls and the pairs ps, where they fit
 abbrev pub fitted : List ℕ → List ℕ → ℕ → ℕ → Counts

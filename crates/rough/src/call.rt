@@ -1,22 +1,22 @@
 // The rough cut of a book.
 ghost use Rattle.std.specs.Prelude.{◌≡◌, ◌+◌, ◌≤◌, length};
-ghost use Rattle.rough.specs.Arrays.{held, listed};
+ghost use Rattle.rough.specs.Arrays.{held};
 ghost use Rattle.rough.specs.Outcome.{answer, fitted, laid, roomy_answer};
 ghost use Rattle.rough.specs.Promise.{Promised};
 ghost use Rattle.rough.specs.Run.{apart_of, links_of, rising};
 
 use crate::fault::RoughFault;
-use crate::listed::Listed;
 use crate::roads::lowest_empty;
 use crate::run::go_through;
+use arrayvec::ArrayVec;
 use book::RoadBook;
 
 // The chosen links, rising.
-fn links_in(chosen: &[bool; 256], highest: u16) -> Listed
+fn links_in(chosen: &[bool; 256], highest: u16) -> ArrayVec<u16, 256>
     requires { highest ≤ 255 }
-    ensures { listed result ≡ rising (held chosen.now) (highest + 1) }
+    ensures { result.items ≡ rising (held chosen.now) (highest + 1) }
 {
-    let mut links = Listed::empty();
+    let mut links = ArrayVec::new();
     for link in 0..highest + 1 {
         if chosen[link as usize] {
             links.push(link);
@@ -27,24 +27,24 @@ fn links_in(chosen: &[bool; 256], highest: u16) -> Listed
 
 // Writes both lists, if each fits its slice, and else nothing.
 fn lay(
-    cut: &Listed,
-    pairs: &Listed,
+    cut: &[u16],
+    pairs: &[u16],
     links: &mut [u16],
     apart: &mut [u16],
 ) -> Result<(usize, usize), RoughFault>
-    ensures counts { result ≡ fitted (listed cut.now) (listed pairs.now) (length links.old) (length apart.old) }
-    ensures cut { links.new ≡ laid result (listed cut.now) links.old }
-    ensures pairs { apart.new ≡ laid result (listed pairs.now) apart.old }
+    ensures counts { result ≡ fitted cut.now pairs.now (length links.old) (length apart.old) }
+    ensures cut { links.new ≡ laid result cut.now links.old }
+    ensures pairs { apart.new ≡ laid result pairs.now apart.old }
 {
-    if links.len() < cut.count {
-        return Err(RoughFault::LinksBuffer(cut.count));
+    if links.len() < cut.len() {
+        return Err(RoughFault::LinksBuffer(cut.len()));
     }
-    if apart.len() < pairs.count {
-        return Err(RoughFault::PairsBuffer(pairs.count));
+    if apart.len() < pairs.len() {
+        return Err(RoughFault::PairsBuffer(pairs.len()));
     }
-    cut.write(links);
-    pairs.write(apart);
-    Ok((cut.count, pairs.count))
+    links[..cut.len()].copy_from_slice(cut);
+    apart[..pairs.len()].copy_from_slice(pairs);
+    Ok((cut.len(), pairs.len()))
 }
 
 // Goes through the open pairs by falling rank, equal ranks by rising number. A pair that no chosen link meets is written
@@ -67,5 +67,5 @@ pub fn rough<B: RoadBook>(
     }
     let (chosen, pairs) = go_through(book);
     let cut = links_in(&chosen, book.highest());
-    lay(&cut, &pairs, links, apart)
+    lay(cut.as_slice(), pairs.as_slice(), links, apart)
 }

@@ -3,8 +3,6 @@
 
 mod call;
 mod fault;
-mod listed;
-mod listing;
 mod order;
 mod refusals;
 mod roads;

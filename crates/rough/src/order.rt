@@ -5,16 +5,14 @@ ghost use Rattle.rough.specs.Arrays.{held, numbered};
 ghost use Rattle.rough.specs.Order.{earlier, first_of, nearer};
 
 use book::RoadBook;
+use std::array;
+use std::cmp::Reverse;
 
 // The rank of each pair, asked once.
 pub(crate) fn ranks_of<B: RoadBook>(book: &B) -> [u16; 256]
     ensures { (p : ℕ) → numbered result p ≡ rank_at (B.meaning book.now) p }
 {
-    let mut ranks = [0; 256];
-    for pair in 0..256 {
-        ranks[pair as usize] = book.rank(pair);
-    }
-    ranks
+    array::from_fn(|pair| book.rank(pair as u16))
 }
 
 // The pairs to go through.
@@ -22,36 +20,14 @@ pub(crate) fn open_pairs<B: RoadBook>(book: &B) -> [bool; 256]
     ensures long { length result ≡ 256 }
     ensures opened { (p : ℕ) → held result p ≡ (B.meaning book.now).opened p }
 {
-    let mut left = [false; 256];
-    for pair in 0..256 {
-        left[pair as usize] = book.is_open(pair);
-    }
-    left
+    array::from_fn(|pair| book.is_open(pair as u16))
 }
 
-// The order: by falling rank, equal ranks by rising number.
-fn comes_before(ranks: &[u16; 256], pair: u16, other: u16) -> bool
-    requires { (pair < 256) × (other < 256) }
-    ensures { result ≡ earlier (numbered ranks.now) pair other }
-{
-    if ranks[pair as usize] != ranks[other as usize] {
-        return ranks[pair as usize] > ranks[other as usize];
-    }
-    pair < other
-}
-
-fn first_of_two(ranks: &[u16; 256], pair: u16, best: Option<u16>) -> u16
-    requires { (pair < 256) × (((p : ℕ) → best ≡ Some p → p < 256)) }
-    ensures { result ≡ nearer (earlier (numbered ranks.now)) pair best }
-{
-    let Some(other) = best else {
-        return pair;
-    };
-    if comes_before(ranks, pair, other) {
-        pair
-    } else {
-        other
-    }
+// A pair with its rank, which comes before another by falling rank, at equal ranks by rising number.
+#[derive(Clone, Copy, PartialEq, Eq, PartialOrd, Ord)]
+struct Ranked {
+    rank: Reverse<u16>,
+    pair: u16,
 }
 
 // The first in the order among the pairs left.
@@ -59,11 +35,12 @@ pub(crate) fn first_left(ranks: &[u16; 256], left: &[bool; 256], pairs: u16) -> 
     requires { pairs ≤ 256 }
     ensures { result ≡ first_of (earlier (numbered ranks.now)) (held left.now) pairs }
 {
-    let mut best = None;
-    for pair in 0..pairs {
-        if left[pair as usize] {
-            best = Some(first_of_two(ranks, pair, best));
-        }
-    }
-    best
+    (0..pairs)
+        .filter(|pair| left[*pair as usize])
+        .map(|pair| Ranked {
+            rank: Reverse(ranks[pair as usize]),
+            pair,
+        })
+        .min()
+        .map(|first| first.pair)
 }

@@ -11,35 +11,21 @@ use book::{Leg, RoadBook};
 fn has_empty_road<B: RoadBook>(book: &B, pair: u16) -> bool
     ensures { result ≡ empty_road (B.meaning book.now) pair }
 {
-    if !book.is_open(pair) {
-        return false;
-    }
-    if book.link_at(pair, Leg::First, 0).is_some() {
-        return false;
-    }
-    book.link_at(pair, Leg::Second, 0).is_none()
+    book.is_open(pair)
+        && book.link_at(pair, Leg::First, 0).is_none()
+        && book.link_at(pair, Leg::Second, 0).is_none()
 }
 
 // The lowest of these pairs.
 pub(crate) fn lowest_empty<B: RoadBook>(book: &B) -> Option<u16>
     ensures { result ≡ lowest (empty_road (B.meaning book.now)) (B.meaning book.now).pairs }
 {
-    for pair in 0..book.pairs() {
-        if has_empty_road(book, pair) {
-            return Some(pair);
-        }
-    }
-    None
+    (0..book.pairs()).find(|pair| has_empty_road(book, *pair))
 }
 
 // Whether a chosen link is on the pair's road.
 pub(crate) fn is_met<B: RoadBook>(book: &B, chosen: &[bool; 256], pair: u16) -> bool
     ensures { result ≡ meets (posed (B.meaning book.now)) (held chosen.now) pair }
 {
-    for link in 0..book.highest() + 1 {
-        if chosen[link as usize] && book.on_road(link, pair) {
-            return true;
-        }
-    }
-    false
+    (0..book.highest() + 1).any(|link| chosen[link as usize] && book.on_road(link, pair))
 }

@@ -1,15 +1,15 @@
 // Goes through the open pairs in their order.
-ghost use Rattle.std.specs.Prelude.{◌≡◌, ◌<◌, true, [], ◌∷◌, ◌++◌, if◌then◌else◌};
+ghost use Rattle.std.specs.Prelude.{◌≡◌, ◌<◌, true, [], ◌∷◌, ◌++◌, length, if◌then◌else◌};
 ghost use Rattle.book.specs.Meaning.{leg_of, link_at};
 ghost use Rattle.book.specs.Posed.{posed};
 ghost use Rattle.cuts.specs.Links.{union};
 ghost use Rattle.cuts.specs.Search.{meets};
-ghost use Rattle.rough.specs.Arrays.{gone_by, held, listed};
+ghost use Rattle.rough.specs.Arrays.{gone_by, held};
 ghost use Rattle.rough.specs.Run.{gone, top, with_tops};
 
-use crate::listed::Listed;
 use crate::order::{first_left, open_pairs, ranks_of};
 use crate::roads::is_met;
+use arrayvec::ArrayVec;
 use book::{Leg, RoadBook};
 
 // The link at the top of a leg, next to the turning term.
@@ -38,11 +38,16 @@ fn choose_tops<B: RoadBook>(book: &B, chosen: &mut [bool; 256], pair: u16)
 }
 
 // A pair that no chosen link meets is written down, and its tops are chosen.
-fn take_up<B: RoadBook>(book: &B, chosen: &mut [bool; 256], apart: &mut Listed, pair: u16)
+fn take_up<B: RoadBook>(
+    book: &B,
+    chosen: &mut [bool; 256],
+    apart: &mut ArrayVec<u16, 256>,
+    pair: u16,
+)
     requires opened { (B.meaning book.now).opened pair ≡ true }
-    requires room { apart.old.count < 256 }
+    requires room { length apart.old.items < 256 }
     ensures chosen { held chosen.new ≡ (if meets (posed (B.meaning book.now)) (held chosen.old) pair then held chosen.old else with_tops (B.meaning book.now) (held chosen.old) pair) }
-    ensures apart { listed apart.new ≡ (if meets (posed (B.meaning book.now)) (held chosen.old) pair then listed apart.old else listed apart.old ++ (pair ∷ [])) }
+    ensures apart { apart.new.items ≡ (if meets (posed (B.meaning book.now)) (held chosen.old) pair then apart.old.items else apart.old.items ++ (pair ∷ [])) }
 {
     if is_met(book, chosen, pair) {
         return;
@@ -52,14 +57,14 @@ fn take_up<B: RoadBook>(book: &B, chosen: &mut [bool; 256], apart: &mut Listed, 
 }
 
 // The links chosen and the pairs written down, once all open pairs are gone through.
-pub(crate) fn go_through<B: RoadBook>(book: &B) -> ([bool; 256], Listed)
-    ensures { gone_by result.0 result.1 ≡ gone (B.meaning book.now) }
+pub(crate) fn go_through<B: RoadBook>(book: &B) -> ([bool; 256], ArrayVec<u16, 256>)
+    ensures { gone_by result.0 result.1.items ≡ gone (B.meaning book.now) }
 {
     let ranks = ranks_of(book);
     let pairs = book.pairs();
     let mut left = open_pairs(book);
     let mut chosen = [false; 256];
-    let mut apart = Listed::empty();
+    let mut apart = ArrayVec::new();
     while let Some(pair) = first_left(&ranks, &left, pairs) {
         left[pair as usize] = false;
         take_up(book, &mut chosen, &mut apart, pair);

@@ -2,6 +2,7 @@
 ghost use Rattle.rough.specs.Sample.{SampleFits, SampleIsCut};
 
 // The links are 3, 4, 5 and 6, and the pairs 0 and 2 are apart.
+#[tactic(auto, using(crate::proofs::Drawn::sample_cut))]
 fn sample_computes()
     ensures { SampleIsCut }
 {}

@@ -9,25 +9,14 @@ use book::RoadBook;
 pub fn first_closed<B: RoadBook>(book: &B, pairs: &[u16]) -> Option<u16>
     ensures { result ≡ first_closed (B.meaning book.now).opened pairs.now }
 {
-    for pair in pairs {
-        if !book.is_open(*pair) {
-            let closed = *pair;
-            return Some(closed);
-        }
-    }
-    None
+    pairs.iter().copied().find(|pair| !book.is_open(*pair))
 }
 
 // Whether a number is among others.
 pub fn is_among(number: u16, others: &[u16]) -> bool
     ensures { result ≡ among number others.now }
 {
-    for other in others {
-        if number == *other {
-            return true;
-        }
-    }
-    false
+    others.contains(&number)
 }
 
 // The first listed pair that repeats one of those in front or one listed before it.
@@ -38,7 +27,7 @@ pub fn first_repeat(front: &[u16], pairs: &[u16]) -> Option<u16>
         if is_among(*pair, front) {
             return Some(*pair);
         }
-        if is_among(*pair, &pairs[0..i]) {
+        if is_among(*pair, &pairs[..i]) {
             return Some(*pair);
         }
     }

@@ -1,9 +1,10 @@
 -- A step that is admitted meets its rule, and leaves what the rule leaves.
 use Rattle.std.proofs.Common.{◌≡◌, ℕ, ◌+◌, true, ◌&&◌, eqb, leb, List, [], ◌∷◌, length, Ok, refl, subst, arith}
+use Rattle.std.specs.List.{list_all}
 use Rattle.std.proofs.lemmas.Bool.{and_from, eq-eqb, eqb-false, le-leb, not-true, or_left}
 use Rattle.cuts.specs.Instances.{Instance}
 use Rattle.cuts.specs.Steps.{Step, after, common_factor, disjoint_pairs, dominated_link, dominated_pair, idle_link, is_admitted, left_after, overloaded_link, unit_road}
-use Rattle.cuts.specs.Tests.{all_links, all_of, all_pairs, also_on, differ, follows, is_crowd, is_link, never, on_road, pairwise, shares, sole_on}
+use Rattle.cuts.specs.Tests.{all_links, all_pairs, also_on, differ, follows, is_crowd, is_link, never, on_road, pairwise, shares, sole_on}
 use Rattle.cuts.proofs.Stepping.{step_decided}
 use Rattle.book.specs.Meaning.{Lawful, Meaning}
 use Rattle.book.specs.Posed.{posed}
@@ -33,8 +34,8 @@ module _ (m : Meaning) (law : Lawful m) (t u : Tally) (whole : Whole t) where
   some_left : differ t.left 0 ≡ true → leb 1 t.left ≡ true
   some_left e = let ne = eqb-false t.left 0 (not-true (eqb t.left 0) e) in le-leb 1 t.left (omega (arith, ne))
 
-  crowd : (qs : List ℕ) → eqb (length qs) (t.left + 1) ≡ true → all_of i.opened qs ≡ true → pairwise differ qs ≡ true → is_crowd i t.left qs ≡ true
-  crowd qs a b c = and_from (eqb (length qs) (t.left + 1)) (all_of i.opened qs && pairwise differ qs) a (and_from (all_of i.opened qs) (pairwise differ qs) b c)
+  crowd : (qs : List ℕ) → eqb (length qs) (t.left + 1) ≡ true → list_all i.opened qs ≡ true → pairwise differ qs ≡ true → is_crowd i t.left qs ≡ true
+  crowd qs a b c = and_from (eqb (length qs) (t.left + 1)) (list_all i.opened qs && pairwise differ qs) a (and_from (list_all i.opened qs) (pairwise differ qs) b c)
 
   pub follow : (s : Step) → judged m t s ≡ Ok u → Follows m t u s
   follow (idle_link l) e =
@@ -79,9 +80,9 @@ module _ (m : Meaning) (law : Lawful m) (t u : Tally) (whole : Whole t) where
       let apart = repeat_all (r ∷ []) qs c.0 in
       let others = apart.1 r (or_left (eqb r r) _ (eq-eqb r r refl)) in
       made (common_factor r qs) (drop_pair r t) o.0
-      (and_from (i.opened r && is_crowd i t.left qs) (all_of (differ r) qs && pairwise (shares i (on_road i r)) qs)
+      (and_from (i.opened r && is_crowd i t.left qs) (list_all (differ r) qs && pairwise (shares i (on_road i r)) qs)
       (and_from (i.opened r) (is_crowd i t.left qs) a.0 (crowd qs n.0 (closed_all i.opened qs b.0) apart.0))
-      (and_from (all_of (differ r) qs) (pairwise (shares i (on_road i r)) qs) others d.0))
+      (and_from (list_all (differ r) qs) (pairwise (shares i (on_road i r)) qs) others d.0))
       (drop_leaves m law t whole r a.0) refl d.1
   follow (overloaded_link l qs) e =
       let o = check_parts _ _ _ u e in
@@ -90,10 +91,10 @@ module _ (m : Meaning) (law : Lawful m) (t u : Tally) (whole : Whole t) where
       let b = check_none_parts (first_closed i.opened qs) _ _ u a.1 in
       let c = check_none_parts (first_repeat [] qs) _ _ u b.1 in
       let k = check_parts (differ t.left 0) _ _ u c.1 in
-      let d = check_parts (all_of (i.on l) qs && pairwise (shares i (is_link l)) qs) _ _ u k.1 in
+      let d = check_parts (list_all (i.on l) qs && pairwise (shares i (is_link l)) qs) _ _ u k.1 in
       made (overloaded_link l qs) (cut_link i l t) o.0
       (and_from (leb 1 t.left) _ (some_left k.0)
-      (and_from (i.live l && is_crowd i t.left qs) (all_of (i.on l) qs && pairwise (shares i (is_link l)) qs)
+      (and_from (i.live l && is_crowd i t.left qs) (list_all (i.on l) qs && pairwise (shares i (is_link l)) qs)
       (and_from (i.live l) (is_crowd i t.left qs) a.0 (crowd qs n.0 (closed_all i.opened qs b.0) (repeat_all [] qs c.0).0)) d.0))
       (cut_leaves m law t whole l a.0) refl d.1
   follow (disjoint_pairs qs) e =

@@ -15,7 +15,8 @@ use Rattle.working.specs.Rest.{rest, undropped, unmarked}
 use Rattle.working.specs.declared.tally.LinkMark.TheVariants.{Cut, Welded}
 use Rattle.working.specs.declared.tally.Tally.{Tally}
 use Rattle.runs.specs.Judged.{Whole}
-use Rattle.runs.proofs.Marks.{dropped_but, dropped_off, length_drops, marked_but, marks_remain}
+use Rattle.working.proofs.Drops.{length_drops}
+use Rattle.runs.proofs.Marks.{dropped_but, dropped_off, marked_but, marks_remain}
 
 module _ (m : Meaning) (law : Lawful m) (t : Tally) (whole : Whole t) where
   pub sound : Sound (posed (rest m t))

@@ -4,15 +4,16 @@
 --     marked_but       a marked link, and no other, is not live any more
 --     dropped_but      a dropped pair, and no other, is not open any more
 --     dropped_off      a cut drops the pairs whose roads pass the link, and no others
-use Rattle.std.proofs.Common.{◌≡◌, ℕ, zero, suc, ◌<◌, ◌≤◌, Bool, true, false, not, ◌&&◌, ◌≢◌, List, length, get_or, set, sym, refl, ap, ◌∙◌, ⊎_elim, arith}
+use Rattle.std.proofs.Common.{◌≡◌, ℕ, ◌<◌, ◌≤◌, Bool, true, false, not, ◌&&◌, List, length, get_or, set, sym, refl, ap, ◌∙◌, ⊎_elim}
 use mathlib.Core.Bool.{and-false, and-true}
-use Rattle.std.proofs.lemmas.List.{get_or-set_other, get_or-set_same, length-set}
-use Rattle.std.proofs.lemmas.Bool.{both_ways, cases_Bool, cases_eq, cond-false, cond-true, eq-eqb, ne_eqb}
+use Rattle.std.proofs.lemmas.List.{get_or-set_other, get_or-set_same}
+use Rattle.std.proofs.lemmas.Bool.{cases_Bool, cases_eq, eq-eqb, ne_eqb}
 use Rattle.cuts.specs.After.{but_for, off_road, remain}
 use Rattle.cuts.specs.Instances.{Instance, Sound}
 use Rattle.cuts.proofs.Same.{remain_remain, same_instance}
 use Rattle.book.specs.Meaning.{Meaning}
 use Rattle.book.specs.Posed.{posed}
+use Rattle.working.proofs.Drops.{dropped_here, dropped_not}
 use Rattle.working.specs.Lawful.{rest_on}
 use Rattle.working.specs.Marking.{drop_where}
 use Rattle.working.specs.Rest.{is_unmarked, rest, undropped, unmarked}
@@ -48,40 +49,6 @@ dropped_but ds r p h =
     (λ ne. ap not (get_or-set_other ds r p true false ne) ∙
     sym (ap (λ b. not (get_or ds p false) && not b) (ne_eqb p r ne) ∙ and-true (not (get_or ds p false))))
     (cases_eq p r)
-
-pub length_drops : (f : ℕ → Bool) (n : ℕ) (ds : List Bool) → length (drop_where f n ds) ≡ length ds
-length_drops f zero ds = refl
-length_drops f (suc n) ds =
-    ⊎_elim
-    (λ e. ap length (cond-true (f n) (set (drop_where f n ds) n true) (drop_where f n ds) e) ∙ length-set (drop_where f n ds) n true ∙ length_drops f n ds)
-    (λ e. ap length (cond-false (f n) (set (drop_where f n ds) n true) (drop_where f n ds) e) ∙ length_drops f n ds)
-    (cases_Bool (f n))
-
-pub dropped_here : (f : ℕ → Bool) (n : ℕ) (ds : List Bool) (p : ℕ) → n ≤ length ds → p < n → f p ≡ true → get_or (drop_where f n ds) p false ≡ true
-dropped_here f zero ds p fits h e = absurd (omega arith)
-dropped_here f (suc n) ds p fits h e =
-    ⊎_elim
-    (λ is.
-    let here = cond-true (f n) (set (drop_where f n ds) n true) (drop_where f n ds) (ap f (sym is) ∙ e) in
-    ap (λ xs. get_or xs p false) here ∙ ap (λ k. get_or (set (drop_where f n ds) n true) k false) is ∙
-    get_or-set_same (drop_where f n ds) n true false (omega (arith, length_drops f n ds)))
-    (λ ne.
-    let before = dropped_here f n ds p (omega arith) (omega (arith, ne)) e in
-    ⊎_elim
-    (λ t. ap (λ xs. get_or xs p false) (cond-true (f n) (set (drop_where f n ds) n true) (drop_where f n ds) t) ∙ get_or-set_other (drop_where f n ds) n p true false ne ∙ before)
-    (λ t. ap (λ xs. get_or xs p false) (cond-false (f n) (set (drop_where f n ds) n true) (drop_where f n ds) t) ∙ before)
-    (cases_Bool (f n)))
-    (cases_eq p n)
-
-pub dropped_not : (f : ℕ → Bool) (n : ℕ) (ds : List Bool) (p : ℕ) → f p ≡ false → get_or (drop_where f n ds) p false ≡ get_or ds p false
-dropped_not f zero ds p e = refl
-dropped_not f (suc n) ds p e =
-    ⊎_elim
-    (λ t.
-    let ne : p ≢ n = λ is. both_ways (f n) (ap f (sym is) ∙ e) t in
-    ap (λ xs. get_or xs p false) (cond-true (f n) (set (drop_where f n ds) n true) (drop_where f n ds) t) ∙ get_or-set_other (drop_where f n ds) n p true false ne ∙ dropped_not f n ds p e)
-    (λ t. ap (λ xs. get_or xs p false) (cond-false (f n) (set (drop_where f n ds) n true) (drop_where f n ds) t) ∙ dropped_not f n ds p e)
-    (cases_Bool (f n))
 
 -- a cut drops the pairs whose roads pass the link, and no others
 pub dropped_off : (i : Instance) → Sound i → (l : ℕ) (ds : List Bool) (p : ℕ) → i.pairs ≤ length ds → not (get_or (drop_where (i.on l) i.pairs ds) p false) ≡ (not (get_or ds p false) && off_road i l p)

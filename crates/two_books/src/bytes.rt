@@ -1,41 +1,16 @@
-// Packed plans of 256 terms and 256 pairs, of some shapes.
+// Packed plans of 256 terms and 256 pairs.
+ghost use Rattle.std.specs.Prelude.{◌≤◌};
+
 use std::alloc::{AllocError, Global};
 
-#[derive(Clone, Copy)]
-pub(crate) enum Shape {
-    Path,
-    Star,
-    Caterpillar,
-    Binary,
-}
-
-fn broader(shape: Shape, term: u16) -> u16 {
-    match shape {
-        Shape::Path => term.saturating_sub(1),
-        Shape::Star => 0,
-        Shape::Caterpillar => term.saturating_sub(1) / 2 * 2,
-        Shape::Binary => term.saturating_sub(1) / 2,
-    }
-}
-
-fn push(bits: &mut Vec<bool>, width: u16, value: u16) -> Result<(), AllocError> {
-    for i in 0..width {
-        let mut rest = value;
-        for _ in i + 1..width {
-            rest = rest / 2;
-        }
-        bits.push(rest % 2 == 1)?;
+// Pushes the lowest bits of a number, the highest of them first.
+fn push(bits: &mut Vec<bool>, width: u16, value: u16) -> Result<(), AllocError>
+    requires { width ≤ 16 }
+{
+    for i in (0..width).rev() {
+        bits.push((value >> i) % 2 == 1)?;
     }
     Ok(())
-}
-
-fn byte_at(bits: &Vec<bool>, at: usize) -> u8 {
-    let mut byte = 0u8;
-    for i in 0..8usize {
-        let set = bits.get(at.saturating_add(i)).copied().unwrap_or(false);
-        byte = byte.wrapping_mul(2).wrapping_add(if set { 1 } else { 0 });
-    }
-    byte
 }
 
 // Pair q is the term 1 + 37 q below 255, and a larger one.
@@ -46,20 +21,27 @@ fn push_pair(bits: &mut Vec<bool>, q: u16) -> Result<(), AllocError> {
     push(bits, 8, second)
 }
 
-pub(crate) fn packed(heap: Global, shape: Shape) -> Result<Vec<u8>, AllocError> {
+// The byte of up to eight bits, the first of them the highest.
+fn byte(bits: &[bool]) -> u8 {
+    (0..8).fold(
+        0,
+        |byte, i| byte << 1 | u8::from(bits.get(i).is_some_and(|bit| *bit)),
+    )
+}
+
+// The packed plan whose broader terms a function gives.
+pub(crate) fn packed<F: Fn(u16) -> u16>(heap: Global, broader: F) -> Result<Vec<u8>, AllocError>
+    requires { F.IsAlwaysCallable broader }
+{
     let mut bits = Vec::new(heap);
     push(&mut bits, 9, 256)?;
     push(&mut bits, 9, 256)?;
     push(&mut bits, 8, 10)?;
     for term in 1..256 {
-        push(&mut bits, 8, broader(shape, term))?;
+        push(&mut bits, 8, broader(term))?;
     }
     for q in 0..256 {
         push_pair(&mut bits, q)?;
     }
-    let mut bytes = Vec::new(heap);
-    for k in 0..bits.len().div_ceil(8) {
-        bytes.push(byte_at(&bits, k.saturating_mul(8)))?;
-    }
-    Ok(bytes)
+    bits.chunks(8).map(byte).collect(heap)
 }

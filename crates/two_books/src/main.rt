@@ -7,18 +7,22 @@ mod bytes;
 mod questions;
 mod rough_cuts;
 mod sample;
+mod timing;
 
 use book::{ClimbingBook, Sheet};
-use bytes::{Shape, packed};
+use bytes::packed;
 use plan::Plan;
 use questions::{disagreements, time_questions};
 use rough_cuts::{compare_rough, time_rough};
 use sample::tell_sample;
 use std::io;
 
-fn compare(rt: &HostRuntime, name: &str, shape: Shape) -> io::Result<()> {
+// Compares and times the two books of a plan whose broader terms a function gives.
+fn compare<F: Fn(u16) -> u16>(rt: &HostRuntime, name: &str, broader: F) -> io::Result<()>
+    requires { F.IsAlwaysCallable broader }
+{
     let mut plan = Plan::fresh();
-    let file = packed(rt.alloc(), shape)?;
+    let file = packed(rt.alloc(), broader)?;
     if plan.read(file.as_slice()).is_err() {
         return println!(rt; "{name}: no plan");
     }
@@ -35,8 +39,8 @@ fn compare(rt: &HostRuntime, name: &str, shape: Shape) -> io::Result<()> {
 
 fn main(rt: HostRuntime) -> io::Result<()> {
     tell_sample(&rt)?;
-    compare(&rt, "path", Shape::Path)?;
-    compare(&rt, "star", Shape::Star)?;
-    compare(&rt, "caterpillar", Shape::Caterpillar)?;
-    compare(&rt, "binary", Shape::Binary)
+    compare(&rt, "path", |term| term.saturating_sub(1))?;
+    compare(&rt, "star", |_| 0)?;
+    compare(&rt, "caterpillar", |term| term.saturating_sub(1) / 2 * 2)?;
+    compare(&rt, "binary", |term| term.saturating_sub(1) / 2)
 }

@@ -1,8 +1,8 @@
 // The rough cuts of two books, compared and timed.
+use crate::timing::timed;
 use book::RoadBook;
 use rough::rough;
 use std::io;
-use std::time::Instant;
 
 const CALLS: u32 = 1000;
 
@@ -33,10 +33,13 @@ pub(crate) fn compare_rough<L: RoadBook, R: RoadBook>(
 fn count_rough<B: RoadBook>(book: &B) -> usize {
     let mut links = [0; 256];
     let mut apart = [0; 256];
-    match rough(book, &mut links, &mut apart) {
-        Ok((cut, pairs)) => cut.saturating_add(pairs),
-        Err(_) => 0,
-    }
+    rough(book, &mut links, &mut apart).map_or(0, |(cut, pairs)| cut.saturating_add(pairs))
+}
+
+fn ask_rough<B: RoadBook>(book: &B) -> usize {
+    (0..CALLS)
+        .map(|_| count_rough(book))
+        .fold(0, usize::saturating_add)
 }
 
 // The microseconds that the calls take, on standard error.
@@ -46,11 +49,6 @@ pub(crate) fn time_rough<B: RoadBook>(
     make: &str,
     book: &B,
 ) -> io::Result<()> {
-    let start = Instant::now(rt)?;
-    let mut sum = 0usize;
-    for _ in 0..CALLS {
-        sum = sum.saturating_add(count_rough(book));
-    }
-    let time = start.elapsed(rt)?.as_micros();
+    let (sum, time) = timed(rt, || ask_rough(book))?;
     eprintln!(rt; "{name} {make}: {CALLS} rough cuts {time} us ({sum})")
 }

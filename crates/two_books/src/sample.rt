@@ -14,10 +14,8 @@ fn leg_text<B: RoadBook>(
     leg: Leg,
 ) -> Result<String, AllocError> {
     let mut text = String::new(heap);
-    for place in 0..256 {
-        if let Some(link) = book.link_at(pair, leg, place) {
-            text.push_str(format!(in heap; " {link}")?.as_str())?;
-        }
+    for link in (0..256).filter_map(|place| book.link_at(pair, leg, place)) {
+        write!(text, " {link}")?;
     }
     Ok(text)
 }

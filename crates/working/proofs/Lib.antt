@@ -1,3 +1,3 @@
-pub mod Bounds
 pub mod Drops
 pub mod Legs
+pub mod Places

@@ -3,13 +3,15 @@
 --     check b f r        r where b is true, and the refusal f where it is not; check_none and check_list likewise
 --     ruled i t s        the step s, in an open working with the tally t whose rest poses the instance i: the tally after
 --                        it, or the first refusal that meets it
---     judged m t s       the same in any working over a book that tells m
+--     ruled_in m t s     the same of the rest of a book that tells m
+--     judged m t s       the same in any working over that book
 --     Outcome j t r u    a call that j judges answers r and leaves the tally u where it found t
 use Rattle.std.specs.Prelude.{◌≡◌, ℕ, ◌+◌, Bool, true, false, cond, ◌&&◌, List, [], ◌∷◌, length, Some, None, Ok, Err, Option, Result, MatchResult, ◌==◌, slice_index}
+use Rattle.std.specs.List.{list_all}
 use Rattle.cuts.specs.After.{off_road}
 use Rattle.cuts.specs.Instances.{Instance}
 use Rattle.cuts.specs.Steps.{Step, common_factor, disjoint_pairs, dominated_link, dominated_pair, idle_link, overloaded_link, unit_road}
-use Rattle.cuts.specs.Tests.{all_links, all_of, all_pairs, also_on, differ, follows, pairwise, sole_on}
+use Rattle.cuts.specs.Tests.{all_links, all_pairs, also_on, differ, follows, pairwise, sole_on}
 use Rattle.book.specs.Meaning.{Meaning}
 use Rattle.book.specs.Posed.{posed}
 use Rattle.rules.specs.Faulty.{first_closed, first_repeat}
@@ -83,7 +85,7 @@ ruled i t (overloaded_link l qs) =
     check (i.live l) (NotLive l) (
     check_list i t [] qs (
     check (differ t.left 0) (NothingLeft l) (
-    check (all_of (i.on l) qs && pairwise (share_only i (Link l)) qs) (RuleFails l) (
+    check (list_all (i.on l) qs && pairwise (share_only i (Link l)) qs) (RuleFails l) (
     Ok (cut_link i l t))))))
 ruled i t (disjoint_pairs qs) =
     check (length qs == t.left + 1) (WrongLength (length qs)) (
@@ -91,13 +93,20 @@ ruled i t (disjoint_pairs qs) =
     check (pairwise (share_only i Nothing) qs) (RuleFails (slice_index qs 0)) (
     Ok (end_none t))))
 
+abbrev pub ruled_in : Meaning → Tally → Step → Judgement
+ruled_in m t s = ruled (posed (rest m t)) t s
+
+-- what check_list says of the rest
+abbrev pub check_list_in : Meaning → Tally → List ℕ → List ℕ → Judgement → Judgement
+check_list_in m t front qs r = check_list (posed (rest m t)) t front qs r
+
 abbrev pub is_open : State → Bool
 is_open Open = true
 is_open NoCut = false
 is_open Parted = false
 
 abbrev pub judged : Meaning → Tally → Step → Judgement
-judged m t s = check (is_open t.state) Ended (ruled (posed (rest m t)) t s)
+judged m t s = check (is_open t.state) Ended (ruled_in m t s)
 
 abbrev pub Outcome : {X : Type 0} → Judgement → Tally → Result X WorkingFault → Tally → Type 0
 Outcome j t r u = MatchResult r (λ _. j ≡ Ok u) (λ f. (j ≡ Err f) × (u ≡ t))

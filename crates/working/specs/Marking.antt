@@ -5,14 +5,14 @@
 --     drop_pair r t        pair r is dropped
 --     end_none t           the working ends as none
 --     drop_where f n ds    each pair below n of which f is true is dropped
-use Rattle.std.specs.Prelude.{ℕ, zero, suc, ◌-◌, Bool, true, false, cond, List, replicate, slice_set}
+use Rattle.std.specs.Prelude.{ℕ, zero, suc, ◌-◌, Bool, true, false, cond, List, replicate, slice_set, None}
 use Rattle.cuts.specs.Instances.{Instance}
 use Rattle.working.specs.declared.tally.LinkMark.TheVariants.{Cut, Unmarked, Welded}
 use Rattle.working.specs.declared.tally.State.TheVariants.{NoCut, Open}
 use Rattle.working.specs.declared.tally.Tally.{Tally}
 
 abbrev pub fresh : ℕ → Tally
-fresh k = record { links = replicate 256 Unmarked; dropped = replicate 256 false; entries = replicate 256 0; left = k; state = Open }
+fresh k = record { links = replicate 256 Unmarked; dropped = replicate 256 false; entries = replicate 256 None; left = k; state = Open }
 
 abbrev pub drop_where : (ℕ → Bool) → ℕ → List Bool → List Bool
 drop_where f zero ds = ds

@@ -17,7 +17,7 @@ impl<'a, B: RoadBook> Working<'a, B> {
             tally: Tally {
                 links: [LinkMark::Unmarked; 256],
                 dropped: [false; 256],
-                entries: [0; 256],
+                entries: [None; 256],
                 left: budget,
                 state: State::Open,
             },

@@ -1,6 +1,7 @@
 // Workings: an editor's steps over any road-book, and the rest that they leave.
 #![tactic(auto)]
 
+mod checks;
 mod fault;
 mod laying;
 mod lists;

@@ -1,12 +1,11 @@
-// Steps on listed pairs, one more than is left.
-ghost use Rattle.std.specs.Prelude.{◌≡◌, ◌+◌};
-ghost use Rattle.book.specs.Posed.{posed};
+// Steps on listed pairs, one more than is left: the tally after a step, or the first refusal that meets it.
+ghost use Rattle.std.specs.Prelude.{◌≡◌, ◌+◌, MatchResult};
 ghost use Rattle.cuts.specs.Steps.{common_factor, disjoint_pairs, overloaded_link};
-ghost use Rattle.working.specs.Judging.{ruled, Outcome};
-ghost use Rattle.working.specs.Rest.{rest};
+ghost use Rattle.working.specs.Judging.{check_list_in, ruled_in, Judgement};
 
+use crate::checks::check;
 use crate::fault::WorkingFault;
-use crate::tally::State;
+use crate::tally::Tally;
 use crate::working::Working;
 use book::RoadBook;
 use rules::{Common, all_pass, first_closed, first_repeat, share_only};
@@ -16,78 +15,67 @@ impl<'a, B: RoadBook> Working<'a, B> {
     fn one_too_many(&self) -> usize
         ensures { result ≡ self.now.tally.left + 1 }
     {
-        self.tally.left as usize + 1
+        usize::from(self.tally.left) + 1
     }
 
-    pub(crate) fn common_factor(&mut self, pair: u16, pairs: &[u16]) -> Result<(), WorkingFault>
-        ensures outcome { Outcome (ruled (posed (rest (B.RoadBook.meaning self.old.book.now) self.old.tally)) self.old.tally (common_factor pair pairs.now)) self.old.tally result self.new.tally }
-        ensures keeps { self.new.book ≡ self.old.book }
+    // Whether all listed pairs are open, and none repeats one in front or one listed before it.
+    fn check_list(&self, front: &[u16], pairs: &[u16]) -> Result<(), WorkingFault>
+        ensures { (j : Judgement) → MatchResult result (λ _. check_list_in (B.meaning self.now.book.now) self.now.tally front.now pairs.now j ≡ j) (λ f. check_list_in (B.meaning self.now.book.now) self.now.tally front.now pairs.now j ≡ Err f) }
     {
-        if pairs.len() != self.one_too_many() {
-            return Err(WorkingFault::WrongLength(pairs.len()));
-        }
-        if !self.is_open(pair) {
-            return Err(WorkingFault::NotOpen(pair));
-        }
         if let Some(pair) = first_closed(self, pairs) {
             return Err(WorkingFault::NotOpen(pair));
         }
-        if let Some(pair) = first_repeat(&[pair], pairs) {
+        if let Some(pair) = first_repeat(front, pairs) {
             return Err(WorkingFault::Repeated(pair));
         }
-        if !share_only(self, Common::RoadOf(pair), pairs) {
-            return Err(WorkingFault::RuleFails(pair));
-        }
-        self.drop_pair(pair);
         Ok(())
     }
 
-    pub(crate) fn overloaded_link(&mut self, link: u16, pairs: &[u16]) -> Result<(), WorkingFault>
-        ensures outcome { Outcome (ruled (posed (rest (B.RoadBook.meaning self.old.book.now) self.old.tally)) self.old.tally (overloaded_link link pairs.now)) self.old.tally result self.new.tally }
-        ensures keeps { self.new.book ≡ self.old.book }
+    pub(crate) fn common_factor(&self, pair: u16, pairs: &[u16]) -> Result<Tally, WorkingFault>
+        ensures { result ≡ ruled_in (B.meaning self.now.book.now) self.now.tally (common_factor pair pairs.now) }
     {
-        if pairs.len() != self.one_too_many() {
-            return Err(WorkingFault::WrongLength(pairs.len()));
-        }
-        if !self.is_live(link) {
-            return Err(WorkingFault::NotLive(link));
-        }
-        if let Some(pair) = first_closed(self, pairs) {
-            return Err(WorkingFault::NotOpen(pair));
-        }
-        if let Some(pair) = first_repeat(&[], pairs) {
-            return Err(WorkingFault::Repeated(pair));
-        }
-        if self.tally.left == 0 {
-            return Err(WorkingFault::NothingLeft(link));
-        }
-        if !all_pass(self, link, pairs) {
-            return Err(WorkingFault::RuleFails(link));
-        }
-        if !share_only(self, Common::Link(link), pairs) {
-            return Err(WorkingFault::RuleFails(link));
-        }
-        self.cut(link);
-        Ok(())
+        check(
+            pairs.len() == self.one_too_many(),
+            WorkingFault::WrongLength(pairs.len()),
+        )?;
+        check(self.is_open(pair), WorkingFault::NotOpen(pair))?;
+        self.check_list(&[pair], pairs)?;
+        check(
+            share_only(self, Common::RoadOf(pair), pairs),
+            WorkingFault::RuleFails(pair),
+        )?;
+        Ok(self.tally.drop_pair(pair))
     }
 
-    pub(crate) fn disjoint_pairs(&mut self, pairs: &[u16]) -> Result<(), WorkingFault>
-        ensures outcome { Outcome (ruled (posed (rest (B.RoadBook.meaning self.old.book.now) self.old.tally)) self.old.tally (disjoint_pairs pairs.now)) self.old.tally result self.new.tally }
-        ensures keeps { self.new.book ≡ self.old.book }
+    pub(crate) fn overloaded_link(&self, link: u16, pairs: &[u16]) -> Result<Tally, WorkingFault>
+        ensures { result ≡ ruled_in (B.meaning self.now.book.now) self.now.tally (overloaded_link link pairs.now) }
     {
-        if pairs.len() != self.one_too_many() {
-            return Err(WorkingFault::WrongLength(pairs.len()));
-        }
-        if let Some(pair) = first_closed(self, pairs) {
-            return Err(WorkingFault::NotOpen(pair));
-        }
-        if let Some(pair) = first_repeat(&[], pairs) {
-            return Err(WorkingFault::Repeated(pair));
-        }
-        if !share_only(self, Common::Nothing, pairs) {
-            return Err(WorkingFault::RuleFails(pairs[0]));
-        }
-        self.tally.state = State::NoCut;
-        Ok(())
+        check(
+            pairs.len() == self.one_too_many(),
+            WorkingFault::WrongLength(pairs.len()),
+        )?;
+        check(self.is_live(link), WorkingFault::NotLive(link))?;
+        self.check_list(&[], pairs)?;
+        check(self.tally.left != 0, WorkingFault::NothingLeft(link))?;
+        check(
+            all_pass(self, link, pairs) && share_only(self, Common::Link(link), pairs),
+            WorkingFault::RuleFails(link),
+        )?;
+        Ok(self.cut(link))
+    }
+
+    pub(crate) fn disjoint_pairs(&self, pairs: &[u16]) -> Result<Tally, WorkingFault>
+        ensures { result ≡ ruled_in (B.meaning self.now.book.now) self.now.tally (disjoint_pairs pairs.now) }
+    {
+        check(
+            pairs.len() == self.one_too_many(),
+            WorkingFault::WrongLength(pairs.len()),
+        )?;
+        self.check_list(&[], pairs)?;
+        check(
+            share_only(self, Common::Nothing, pairs),
+            WorkingFault::RuleFails(pairs[0]),
+        )?;
+        Ok(self.tally.end_none())
     }
 }

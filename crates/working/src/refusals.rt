@@ -1,13 +1,15 @@
 // The number and the place that a working's refusal is reported by.
 ghost use Rattle.working.specs.Refusals.{working_number, working_place};
-ghost use Rattle.std.specs.Prelude.{◌≡◌};
 
 use crate::fault::WorkingFault;
+use plan::Refusal;
 
-impl WorkingFault {
-    pub fn number(self) -> u8
-        ensures { result ≡ working_number self }
-    {
+impl Refusal for WorkingFault {
+    ghost number_of = { working_number };
+
+    ghost place_of = { working_place };
+
+    fn number(self) -> u8 {
         match self {
             WorkingFault::Ended => 6,
             WorkingFault::WrongLength(_) => 7,
@@ -18,9 +20,7 @@ impl WorkingFault {
         }
     }
 
-    pub fn place(self) -> usize
-        ensures { result ≡ working_place self }
-    {
+    fn place(self) -> usize {
         match self {
             WorkingFault::Ended => 0,
             WorkingFault::WrongLength(length) => length,

@@ -6,9 +6,9 @@ use crate::working::Working;
 use book::{Leg, RoadBook};
 
 impl<'a, B: RoadBook> RoadBook for Working<'a, B> {
-    ghost meaning = { λ w. rest (B.RoadBook.meaning w.book.now) w.tally };
+    ghost meaning = { λ w. rest (B.meaning w.book.now) w.tally };
 
-    ghost lawful = { λ w. rest_lawful (B.RoadBook.meaning w.book.now) w.tally (B.RoadBook.lawful w.book.now) };
+    ghost lawful = { λ w. rest_lawful (B.meaning w.book.now) w.tally (B.lawful w.book.now) };
 
     fn highest(&self) -> u16 {
         self.book.highest()
@@ -19,17 +19,11 @@ impl<'a, B: RoadBook> RoadBook for Working<'a, B> {
     }
 
     fn is_live(&self, link: u16) -> bool {
-        if !self.book.is_live(link) {
-            return false;
-        }
-        self.is_unmarked(link)
+        self.book.is_live(link) && self.is_unmarked(link)
     }
 
     fn is_open(&self, pair: u16) -> bool {
-        if !self.book.is_open(pair) {
-            return false;
-        }
-        !self.tally.dropped[pair as usize]
+        self.book.is_open(pair) && !self.tally.dropped[pair as usize]
     }
 
     fn rank(&self, pair: u16) -> u16 {
@@ -39,14 +33,9 @@ impl<'a, B: RoadBook> RoadBook for Working<'a, B> {
         self.book.rank(pair)
     }
 
+    #[tactic(auto, using(crate::proofs::Legs::rest_road))]
     fn on_road(&self, link: u16, pair: u16) -> bool {
-        if !self.is_live(link) {
-            return false;
-        }
-        if !self.is_open(pair) {
-            return false;
-        }
-        self.book.on_road(link, pair)
+        self.is_live(link) && self.is_open(pair) && self.book.on_road(link, pair)
     }
 
     // Passes over the marked links of the book's own leg.
@@ -54,16 +43,9 @@ impl<'a, B: RoadBook> RoadBook for Working<'a, B> {
         if !self.is_open(pair) {
             return None;
         }
-        let mut passed = 0;
-        for at in 0..256 {
-            let link = self.book.link_at(pair, leg, at)?;
-            if self.is_unmarked(link) {
-                if passed == place {
-                    return Some(link);
-                }
-                passed += 1;
-            }
-        }
-        None
+        (0..256)
+            .map_while(|at| self.book.link_at(pair, leg, at))
+            .filter(|link| self.is_unmarked(*link))
+            .nth(usize::from(place))
     }
 }

@@ -12,11 +12,11 @@ use rough::{RoughFault, rough};
 impl<'a, B: RoadBook> Working<'a, B> {
     // The rough cut of the rest, in every state. No mark is made. Slices of 256 places always suffice.
     pub fn rough(&self, links: &mut [u16], apart: &mut [u16]) -> Result<(usize, usize), RoughFault>
-        ensures counts { result ≡ answer (rest (B.RoadBook.meaning self.now.book.now) self.now.tally) (length links.old) (length apart.old) }
-        ensures cut { links.new ≡ laid result (links_of (rest (B.RoadBook.meaning self.now.book.now) self.now.tally)) links.old }
-        ensures pairs { apart.new ≡ laid result (apart_of (rest (B.RoadBook.meaning self.now.book.now) self.now.tally)) apart.old }
-        ensures promise { Promised (rest (B.RoadBook.meaning self.now.book.now) self.now.tally) result links.new apart.new }
-        ensures room { 256 ≤ length links.old → 256 ≤ length apart.old → result ≡ roomy_answer (rest (B.RoadBook.meaning self.now.book.now) self.now.tally) }
+        ensures counts { result ≡ answer (rest (B.meaning self.now.book.now) self.now.tally) (length links.old) (length apart.old) }
+        ensures cut { links.new ≡ laid result (links_of (rest (B.meaning self.now.book.now) self.now.tally)) links.old }
+        ensures pairs { apart.new ≡ laid result (apart_of (rest (B.meaning self.now.book.now) self.now.tally)) apart.old }
+        ensures promise { Promised (rest (B.meaning self.now.book.now) self.now.tally) result links.new apart.new }
+        ensures room { 256 ≤ length links.old → 256 ≤ length apart.old → result ≡ roomy_answer (rest (B.meaning self.now.book.now) self.now.tally) }
     {
         rough(self, links, apart)
     }

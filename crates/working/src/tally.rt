@@ -22,8 +22,8 @@ pub struct Tally {
     pub links: [LinkMark; 256],
     // whether each pair has been dropped: it need not be separated any more
     pub dropped: [bool; 256],
-    // the entry number of each link, 0 where it has none
-    pub entries: [u16; 256],
+    // the entry number of each link that has one
+    pub entries: [Option<u16>; 256],
     // how many links may still be cut
     pub left: u8,
     pub state: State,

@@ -13,13 +13,13 @@ pub struct Working<'a, B: RoadBook> {
 
 impl<'a, B: RoadBook> Working<'a, B> {
     pub(crate) fn is_unmarked(&self, link: u16) -> bool
-        requires { link < 256 }
         ensures { result ≡ unmarked self.now.tally link }
     {
-        match self.tally.links[link as usize] {
-            LinkMark::Unmarked => true,
-            LinkMark::Welded => false,
-            LinkMark::Cut => false,
-        }
+        let links = &self.tally.links;
+        links
+            .get(usize::from(link))
+            .copied()
+            .unwrap_or(LinkMark::Unmarked)
+            == LinkMark::Unmarked
     }
 }

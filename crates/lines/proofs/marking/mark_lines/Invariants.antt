@@ -1,14 +1,15 @@
-use Rattle.std.proofs.Common.{◌≡◌, ◌+◌, ◌-◌, ◌≤◌, ◌++◌, length, drop, string_bytes}
+use Rattle.std.proofs.Common.{◌≡◌, ◌+◌, ◌++◌, string_bytes}
+use Rattle.std.specs.Iterator.Adapters.{enumerate_count, enumerate_source}
 use Rattle.lines.specs.Lines.{lines_of}
 use Rattle.lines.specs.Printed.{run_said}
+use Rattle.lines.specs.Reading.{lines_left}
 use Rattle.lines.proofs.marking.mark_lines.Given as goal
 
-abbrev pub invariant-loop-bytes : goal.invariant-loop-bytes
-invariant-loop-bytes g l =
+abbrev pub invariant-loop-i : goal.invariant-loop-i
+invariant-loop-i g l =
     let m = g.B.RoadBook.meaning l.initial.working.book.now in
-    let bs = l.input in
-    (l.working.book ≡ l.initial.working.book) × (l.lines.text.now ≡ bs) × (l.line ≤ l.lines.at) ×
-    (string_bytes l.out ++ run_said m l.working.tally (l.line + 1) (lines_of (drop l.lines.at bs)) ≡ run_said m l.initial.working.tally 1 (lines_of bs))
-
-abbrev pub decreases-loop-bytes : goal.decreases-loop-bytes
-decreases-loop-bytes g l = length l.input - l.lines.at
+    let it = l.i-iterator in
+    let left = lines_left (enumerate_source it) in
+    (goal.iterator-loop-i g).can_next it × (goal.iterator-loop-i g).is_finite it ×
+    (l.working.book ≡ l.initial.working.book) ×
+    (string_bytes l.out ++ run_said m l.working.tally (enumerate_count it + 1) left ≡ run_said m l.initial.working.tally 1 (lines_of l.input))

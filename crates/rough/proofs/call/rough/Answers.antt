@@ -1,5 +1,5 @@
 use Rattle.std.proofs.Common.{◌≡◌, ◌+◌, length, Ok, sym, ap, ◌∙◌, rules}
-use Rattle.rough.specs.Arrays.{gone_by, held, listed}
+use Rattle.rough.specs.Arrays.{gone_by, held}
 use Rattle.rough.specs.Outcome.{answer, fitted, laid, unless_empty}
 use Rattle.rough.specs.Run.{apart_of, gone, links_of, rising}
 use Rattle.rough.proofs.Hopeless.{lowest_empty}
@@ -29,13 +29,13 @@ returns g c =
     let ys = c.args.apart.now in
     let r = c.lay.result in
     let a = c.links_in-cut.result in
-    let s = c.go_through.result.0 in
-    let p = c.go_through.result.1 in
-    let whole : gone_by s p ≡ gone m = c.go_through.ensures in
-    let cut : listed a ≡ links_of m = c.links_in-cut.ensures ∙ ap (λ n. rising (held s) (n + 1)) c.highest.ensures ∙ ap (λ h. rising h.chosen (m.highest + 1)) whole in
-    let pairs : listed p ≡ apart_of m = ap (λ h. h.apart) whole in
+    let s = c.go_through-pairs.result.0 in
+    let p = c.go_through-pairs.result.1 in
+    let whole : gone_by s p.items ≡ gone m = c.go_through-pairs.ensures in
+    let cut : c.as_slice.result.now ≡ links_of m = c.as_slice.ensures.value ∙ c.links_in-cut.ensures ∙ ap (λ n. rising (held s) (n + 1)) c.highest.ensures ∙ ap (λ h. rising h.chosen (m.highest + 1)) whole in
+    let pairs : c.as_slice-2.result.now ≡ apart_of m = c.as_slice-2.ensures.value ∙ ap (λ h. h.apart) whole in
     let none = sym c.in_default.ensures in
-    let counts : r ≡ fitted (links_of m) (apart_of m) (length xs) (length ys) = c.lay.ensures.counts ∙ ap (λ ls. fitted ls (listed p) (length xs) (length ys)) cut ∙ ap (λ ps. fitted (links_of m) ps (length xs) (length ys)) pairs in
+    let counts : r ≡ fitted (links_of m) (apart_of m) (length xs) (length ys) = c.lay.ensures.counts ∙ ap (λ ls. fitted ls c.as_slice-2.result.now (length xs) (length ys)) cut ∙ ap (λ ps. fitted (links_of m) ps (length xs) (length ys)) pairs in
     let left = c.lay.ensures.cut ∙ ap (λ ls. laid r ls xs) cut in
     let right = c.lay.ensures.pairs ∙ ap (λ ps. laid r ps ys) pairs in
     let answered : r ≡ answer m (length xs) (length ys) = counts ∙ ap (λ o. unless_empty o (fitted (links_of m) (apart_of m) (length xs) (length ys))) (sym none) in

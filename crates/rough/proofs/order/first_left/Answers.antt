@@ -1,23 +1,25 @@
-use Rattle.std.proofs.Common.{Some, sym, ap, ◌∙◌, arith}
+use Rattle.std.proofs.Common.{rules, ◌∙◌, arith, refl, ℕ}
+use borrow.Author.Tests.{tests}
+use Rattle.std.proofs.lemmas.Option.{MatchOption-at_none, MatchOption-at_some}
+use Rattle.std.proofs.lemmas.Iterator.{YieldsList-from_map, YieldsList-from_range}
+use Rattle.std.proofs.lemmas.Iterator.Consumers.{YieldsList-at, YieldsList-from_filter, reduce_from_yields_List}
+use Rattle.rough.specs.declared.order.Ranked.{Ranked}
 use Rattle.rough.specs.Arrays.{held, numbered}
-use Rattle.rough.specs.Order.{earlier, nearer}
-use Rattle.rough.proofs.Nearest.{first_below, first_pass, first_take}
+use Rattle.rough.specs.Order.{earlier, first_of}
+use Rattle.rough.proofs.Nearest.{mapped_is, nearest_is, picked_is}
 use Rattle.rough.proofs.order.first_left.Goals as goal
-use Rattle.rough.proofs.order.first_left.Goals.{else-left-pair, then-left-pair}
 
-pub first_of_two-requires : goal.first_of_two-requires
-first_of_two-requires c =
-    let b = earlier (numbered c.args.ranks.now) in
-    let f = held c.args.left.now in
-    let n = c.loop-pair.pair in
-    (omega arith, λ p e. let lt = first_below b f n p (sym c.loop-pair.invariant ∙ e) in omega arith)
-
-pub loop-pair-preserved : goal.loop-pair-preserved
-loop-pair-preserved c =
-    let b = earlier (numbered c.args.ranks.now) in
-    let f = held c.args.left.now in
-    let n = c.loop-pair.pair in
-    elim c.if-left-pair.branch [
-      | then-left-pair w ↦ w.best-is ∙ ap Some (w.first_of_two.ensures ∙ ap (nearer b n) c.loop-pair.invariant) ∙ first_take b f n w.if-left-pair.true
-      | else-left-pair w ↦ w.best-is ∙ c.loop-pair.invariant ∙ first_pass b f n w.if-left-pair.false
-    ]
+-- src/order.rt:34:1
+pub returns : goal.returns
+returns c =
+    let n = c.args.pairs in
+    let r = numbered c.args.ranks.now in
+    let h = held c.args.left.now in
+    let of : ℕ → Ranked = λ p. record { rank = record { 0 = r p }; pair = p } in
+    mapped_is of (λ x. x.pair) (λ p. refl) (first_of (earlier r) h n) c.min.result c.map-2.result
+    (reduce_from_yields_List _ c.map.result _ c.min.ensures.ran
+    (YieldsList-from_map _ of (YieldsList-at c.map.ensures.source
+    (YieldsList-from_filter _ h (YieldsList-at c.filter.ensures.source (YieldsList-from_range 0 n n (cc) (omega arith)))
+    c.filter.ensures.closure (λ x b q k. search (rules, tests)))) c.map.ensures.closure (λ x b q k. search (rules, tests))) ∙
+    nearest_is _ of (earlier r) h (picked_is of r) n)
+    (λ e. let s = MatchOption-at_none _ _ e c.map-2.ensures.cases in s) (λ x e. let s = MatchOption-at_some _ _ x e c.map-2.ensures.cases in search rules)

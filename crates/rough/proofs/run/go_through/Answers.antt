@@ -5,7 +5,7 @@ use Rattle.rough.specs.Order.{earlier, in_order, sorted}
 use Rattle.rough.specs.Run.{go_through, none_gone, take_up}
 use Rattle.rough.proofs.Marking.{held_blank, held_less}
 use Rattle.rough.proofs.Sorting.{length_sorted, sorted_done}
-use Rattle.rough.proofs.Turns.{first_order, listed_long, next_turn, same_gone, take_up_longer, taken_up}
+use Rattle.rough.proofs.Turns.{first_order, next_turn, same_gone, take_up_longer, taken_up}
 use Rattle.rough.proofs.run.go_through.Goals as goal
 
 pub loop-pair-init : goal.loop-pair-init
@@ -17,8 +17,8 @@ loop-pair-init g c =
     let order = earlier (numbered c.ranks_of-ranks.result) in
     let f = held c.open_pairs-left.result in
     let first : sorted order f c.pairs-pairs.result ≡ in_order m = ap (sorted order f) n ∙ first_order m c.ranks_of-ranks.result c.open_pairs-left.result c.ranks_of-ranks.ensures c.open_pairs-left.ensures.opened in
-    let none : c.empty-apart.result.count ≡ 0 = sym (listed_long c.empty-apart.result) ∙ ap length c.empty-apart.ensures in (
-      ap (λ h. go_through m h (sorted order f c.pairs-pairs.result)) (same_gone (gone_by (replicate 256 false) c.empty-apart.result) none_gone (held_blank 256) c.empty-apart.ensures) ∙ ap (go_through m none_gone) first,
+    let none = ap length c.new-apart.ensures in (
+      ap (λ h. go_through m h (sorted order f c.pairs-pairs.result)) (same_gone (gone_by (replicate 256 false) c.new-apart.result.items) none_gone (held_blank 256) c.new-apart.ensures) ∙ ap (go_through m none_gone) first,
       omega (arith, none, n, law.few_pairs, length_sorted order f c.pairs-pairs.result),
       λ p e. sym (c.open_pairs-left.ensures.opened p) ∙ e,
       c.open_pairs-left.ensures.long,
@@ -47,13 +47,13 @@ loop-pair-preserved g c =
     let p = c.in-Some.pair in
     let order = earlier (numbered c.ranks_of-ranks.result) in
     let behind = sorted order (held (set left p false)) c.pairs-pairs.result in
-    let before = gone_by c.loop-pair.chosen c.loop-pair.apart in
+    let before = gone_by c.loop-pair.chosen c.loop-pair.apart.items in
     let (so_far, short, opened, long) = c.loop-pair.invariant in
     let (lt, here, is) = next_turn m (g.B.RoadBook.lawful b) c.ranks_of-ranks.result left c.pairs-pairs.result p c.pairs-pairs.ensures long c.in-Some.ensures in
-    let after = gone_by c.take_up.new.chosen c.take_up.new.apart in
+    let after = gone_by c.take_up.new.chosen c.take_up.new.apart.items in
     let turn : after ≡ take_up m before p = taken_up m before after p c.take_up.ensures.chosen c.take_up.ensures.apart in (
       ap (λ h. go_through m h behind) turn ∙ ap (go_through m before) (sym is) ∙ so_far,
-      omega (arith, ap length is, ap (λ h. length h.apart) turn, take_up_longer m before p, listed_long c.take_up.new.apart, listed_long c.loop-pair.apart),
+      omega (arith, ap length is, ap (λ h. length h.apart) turn, take_up_longer m before p),
       λ q e. opened q (less_in (held left) p q (ap (λ s. s q) (sym (held_less left p (omega arith))) ∙ e)),
       length-set left p false ∙ long,
     )
@@ -69,4 +69,4 @@ returns g c =
     let m = g.B.RoadBook.meaning c.args.book.now in
     let order = earlier (numbered c.ranks_of-ranks.result) in
     let done = sorted_done order (held c.loop-pair.left) c.pairs-pairs.result (sym c.in_default.ensures) in
-    ap (go_through m (gone_by c.loop-pair.chosen c.loop-pair.apart)) (sym done) ∙ c.loop-pair.invariant.0
+    ap (go_through m (gone_by c.loop-pair.chosen c.loop-pair.apart.items)) (sym done) ∙ c.loop-pair.invariant.0

@@ -8,8 +8,8 @@ abbrev pub invariant-loop-pair : goal.invariant-loop-pair
 invariant-loop-pair g l =
     let m = g.B.RoadBook.meaning l.book in
     let ps = sorted (earlier (numbered l.ranks)) (held l.left) l.pairs in
-    (go_through m (gone_by l.chosen l.apart) ps ≡ gone m) ×
-    (l.apart.count + length ps ≤ 256) ×
+    (go_through m (gone_by l.chosen l.apart.items) ps ≡ gone m) ×
+    (length l.apart.items + length ps ≤ 256) ×
     ((p : ℕ) → held l.left p ≡ true → m.opened p ≡ true) ×
     (length l.left ≡ 256)
 

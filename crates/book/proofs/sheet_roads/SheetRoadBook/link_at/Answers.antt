@@ -1,48 +1,17 @@
-use Rattle.std.proofs.Common.{◌≡◌, suc, ◌+◌, ◌-◌, sym, ap, ◌∙◌, arith}
-use Rattle.book.specs.Sheets.{leg_test, pick}
-use Rattle.book.proofs.Picks.{pick_end, pick_here, pick_next, pick_past}
+use Rattle.std.proofs.Common.{ap, ◌∙◌, sym, rules, tests}
+use Rattle.std.proofs.lemmas.Iterator.{YieldsList-from_range}
+use Rattle.std.proofs.lemmas.Iterator.Adapters.{option_map_id}
+use Rattle.std.proofs.lemmas.Iterator.Consumers.{YieldsList-from_filter, nth_from_yields_List}
+use Rattle.std.specs.List.{filter, range_with_len, slice_get}
+use Rattle.book.specs.Sheets.{leg_test}
 use Rattle.book.proofs.Sides.{leg_picked}
 use Rattle.book.proofs.sheet_roads.SheetRoadBook.link_at.Goals as goal
-use Rattle.book.proofs.sheet_roads.SheetRoadBook.link_at.Goals.{else-is_on_leg, then-is_on_leg+else-passed-place}
-
-pub returns-then-passed-place : goal.returns-then-passed-place
-returns-then-passed-place c =
-    let p = c.args.self.now.plan in
-    let g = leg_test p c.args.leg c.args.pair in
-    let l = c.loop-link.link in
-    let n = c.args.place - c.loop-link.passed in
-    let more : 256 - l ≡ suc (255 - l) = omega arith in
-    sym (pick_here g (255 - l) l n (sym c.if-is_on_leg.ensures) (omega arith)) ∙
-    ap (λ d. pick g d l n) (sym more) ∙ c.loop-link.invariant.1 ∙ leg_picked p c.args.leg c.args.pair c.args.place c.if-not-is_open.ensures
-
-pub loop-link-preserved : goal.loop-link-preserved
-loop-link-preserved c =
-    let g = leg_test c.args.self.now.plan c.args.leg c.args.pair in
-    let l = c.loop-link.link in
-    let k = c.args.place in
-    let n = k - c.loop-link.passed in
-    let inv = c.loop-link.invariant in
-    let more : 256 - l ≡ suc (255 - l) = omega arith in
-    let rest : 256 - (l + 1) ≡ 255 - l = omega arith in
-    elim c.if-is_on_leg.branch [
-      | then-is_on_leg+else-passed-place w ↦ (
-        omega (arith, inv.0, w.passed-is, w.if-passed-place.false),
-        ap (λ d. pick g d (l + 1) (k - c.if-is_on_leg.passed)) rest ∙
-            sym (pick_next g (255 - l) l n (k - c.if-is_on_leg.passed) (sym w.if-is_on_leg.ensures) (omega (arith, inv.0, w.passed-is, w.if-passed-place.false))) ∙
-            ap (λ d. pick g d l n) (sym more) ∙ inv.1,
-      )
-      | else-is_on_leg w ↦ (
-        omega (arith, inv.0, w.passed-is),
-        ap (λ d. pick g d (l + 1) (k - c.if-is_on_leg.passed)) rest ∙ ap (λ i. pick g (255 - l) (l + 1) (k - i)) w.passed-is ∙
-            sym (pick_past g (255 - l) l n (sym w.if-is_on_leg.ensures)) ∙ ap (λ d. pick g d l n) (sym more) ∙ inv.1,
-      )
-    ]
 
 pub returns : goal.returns
 returns c =
     let p = c.args.self.now.plan in
-    let g = leg_test p c.args.leg c.args.pair in
-    let l = c.loop-link.link in
-    let n = c.args.place - c.loop-link.passed in
-    let none : 256 - l ≡ 0 = omega arith in
-    sym (pick_end g l n) ∙ ap (λ d. pick g d l n) (sym none) ∙ c.loop-link.invariant.1 ∙ leg_picked p c.args.leg c.args.pair c.args.place c.if-not-is_open.ensures
+    let q = c.args.pair in
+    let g = leg_test p c.args.leg q in
+    sym (option_map_id c.nth.result) ∙
+    nth_from_yields_List _ _ _ c.nth.ensures.ran (YieldsList-from_filter _ g (YieldsList-from_range 0 256 256 (cc) (cc)) c.filter.ensures.closure (λ x b f' k. search (rules, tests))) ∙
+    ap (slice_get (filter g (range_with_len 0 256))) c.from.ensures ∙ leg_picked p c.args.leg q c.args.place c.if-not-is_open.ensures

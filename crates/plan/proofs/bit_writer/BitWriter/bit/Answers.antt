@@ -1,11 +1,13 @@
 use Rattle.std.proofs.Common.{◌≡◌, ◌-◌, ◌*◌, ◌/◌, ◌%◌, ◌^◌, cond, eqb, get_or, set, sym, refl, ap, ◌∙◌}
 use lib.Bits.{bit_or}
 use Rattle.std.proofs.lemmas.Bool.{cond-true, cond-false, eq-eqb, ne_eqb}
+use Rattle.plan.specs.Writes.{put_bits}
 use Rattle.plan.proofs.Puts.{shifted_bit}
 use Rattle.plan.proofs.bit_writer.BitWriter.bit.Goals as goal
 use Rattle.plan.proofs.bit_writer.BitWriter.bit.Goals.{then-self-eq0, else-self-eq0}
 
 pub returns : goal.returns
+unfolding put_bits
 returns c =
     let i = c.args.self.now.at in
     let bs = c.args.self.now.bytes.now in
@@ -18,5 +20,5 @@ returns c =
     record {
       bytes = ap (λ v. set bs (i / 8) (bit_or c.if-self-eq0.before v)) (shifted_bit c.args.bit i c.requires.one) ∙ ap (λ v. set bs (i / 8) (bit_or v (c.args.bit * 2 ^ (7 - i % 8)))) before;
       place = refl;
-      same = refl;
+      lent = refl;
     }

@@ -1,19 +1,13 @@
-use Rattle.std.proofs.Common.{◌+◌, sym, arith, rules}
-use Rattle.plan.proofs.Fields.{bit_lt, field_fits, field_more, field_none}
+use Rattle.std.proofs.Common.{◌+◌, refl, rules, ◌∙◌, arith}
+use Rattle.std.proofs.lemmas.Iterator.{YieldsList-from_range}
+use Rattle.std.proofs.lemmas.Iterator.Consumers.{fold_from_yields_List}
+use Rattle.plan.proofs.Fields.{field_folds, take_bit}
 use Rattle.plan.proofs.bits.BitReader.field.Goals as goal
 
-pub loop-i-init : goal.loop-i-init
-loop-i-init c = sym (field_none c.args.self.now.bytes.now c.args.self.now.at)
-
-pub overflow_mul-value : goal.overflow_mul-value
-overflow_mul-value c = omega (arith, field_fits c.args.self.now.bytes.now c.args.self.now.at c.loop-i.i (omega arith))
-
-pub overflow_add-value : goal.overflow_add-value
-overflow_add-value c =
-    let h = field_fits c.args.self.now.bytes.now c.args.self.now.at c.loop-i.i (omega arith) in
-    omega (arith, bit_lt c.args.self.now.bytes.now (c.args.self.now.at + c.loop-i.i))
-
-pub loop-i-preserved : goal.loop-i-preserved
-loop-i-preserved c =
-    let e = field_more c.args.self.now.bytes.now c.args.self.now.at c.loop-i.i in
-    search rules
+pub returns-clause-value : goal.returns-clause-value
+returns-clause-value c =
+    let bs = c.args.self.now.bytes.now in
+    let at = c.args.self.now.at in
+    let w = c.args.width in
+    let folded = fold_from_yields_List _ (take_bit bs) 0 c.fold-value.result c.fold-value.ensures.ran (YieldsList-from_range at (at + w) w refl (omega arith)) (λ a x b q k. search rules) in
+    (folded ∙ field_folds bs at w c.requires.narrow, refl, c.in_ok-reach.ensures)

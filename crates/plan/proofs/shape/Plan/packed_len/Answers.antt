@@ -1,4 +1,4 @@
-use Rattle.std.proofs.Common.{◌≡◌, sym, ◌∙◌, arith}
+use Rattle.std.proofs.Common.{◌≡◌, sym, ap, ◌∙◌, arith}
 use Rattle.plan.specs.Bits.{whole_bytes}
 use Rattle.plan.specs.Layout.{pair_place}
 use Rattle.plan.proofs.PackedBytes.{packed_length}
@@ -7,5 +7,6 @@ use Rattle.plan.proofs.shape.Plan.packed_len.Goals as goal
 pub returns : goal.returns
 returns c =
     let p = c.args.self.now in
-    let e : c.div_ceil.result ≡ whole_bytes (pair_place p.terms p.pairs) = omega (arith, c.div_ceil.ensures, c.bits_for.ensures.value) in
-    record { bytes = e ∙ sym (packed_length p); bits = e; early = omega (arith, c.bits_for.ensures.value, c.bits_for.ensures.bound) }
+    let h = c.header.ensures in
+    let e : c.div_ceil.result ≡ whole_bytes c.bits.result = omega (arith, c.div_ceil.ensures) in
+    e ∙ ap whole_bytes (c.bits.ensures.value ∙ ap (λ n. pair_place n c.header.result.pairs) h.terms ∙ ap (pair_place p.terms) h.pairs) ∙ sym (packed_length p)

@@ -1,4 +1,4 @@
-use Rattle.std.proofs.Common.{◌≡◌, ◌-◌}
+use Rattle.std.proofs.Common.{◌-◌}
 use Rattle.std.specs.List.{flat_map}
 use Rattle.plan.specs.Layout.{width_for}
 use Rattle.plan.specs.Packed.{field_bits, term_fields}
@@ -8,6 +8,5 @@ use Rattle.plan.proofs.shape.Plan.write_broader.Given as goal
 
 abbrev pub invariant-loop-t : goal.invariant-loop-t
 invariant-loop-t l =
-    let old = l.initial.bits in
     let p = l.self in
-    Wrote old.bytes.now old.at l.bits.bytes.now l.bits.at (flat_map field_bits (term_fields (width_for p.terms) (broader_of p) (l.t - 1))) × (l.bits.bytes.ghost_name ≡ old.bytes.ghost_name)
+    Wrote l.initial.bits l.bits (flat_map field_bits (term_fields (width_for p.terms) (broader_of p) (l.t - 1)))
