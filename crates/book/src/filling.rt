@@ -27,7 +27,8 @@ pub(crate) fn fill<F: Fn(u16, u16) -> bool>(test: F) -> [u64; 1024]
     array::from_fn(|k| word(&test, k as u16))
 }
 
-// The ranks of the pairs, and 0 behind the last of them.
+// The ranks of the pairs, in bytes, and 0 behind the last of them. One function for this and other such arrays would take a
+// closure and save nothing.
 pub(crate) fn fill_ranks(book: &ClimbingBook) -> [u8; 256]
     ensures { Ranked book.now.plan.now result }
 {

@@ -3,7 +3,8 @@ ghost use Rattle.book.specs.Sheets.{Filled, Ranked, first_test, road_test};
 
 use plan::Plan;
 
-// A book that is filled once from a plan, and then answers every question from its tables, without climbing.
+// A book that is filled once from a plan, and then answers every question from its tables, without climbing. The
+// project fixes the tables' form.
 #[derive(Clone, Copy)]
 pub struct Sheet {
     pub(crate) plan: Plan,

@@ -1,4 +1,5 @@
 // The sheet as a road-book.
+// An index is widened by `as`: `usize::from` would be longer there, and no plainer.
 ghost use Rattle.std.specs.Prelude.{◌≡◌, ◌==◌};
 ghost use Rattle.book.specs.Sheets.{bit_in, first_test, leg_test};
 ghost use Rattle.book.specs.Tells.{Tells};

@@ -11,6 +11,7 @@ use book::RoadBook;
 use std::alloc::{AllocError, Global};
 use working::{Step, Working, WorkingFault};
 
+// Written out, since proofs of `?` read `from_gives`.
 impl From<WorkingFault> for LineFault {
     ghost from_gives = { λ e r. r ≡ Held e };
 
@@ -19,7 +20,7 @@ impl From<WorkingFault> for LineFault {
     }
 }
 
-// The step that a letter and its numbers ask for.
+// The step that a letter and its numbers ask for. The project fixes this match on the letter as a character.
 fn step_by<'a>(letter: u8, numbers: &'a [u16]) -> Option<Step<'a>>
     ensures { option_map rule_of result ≡ step_by letter numbers.now }
 {
@@ -48,7 +49,7 @@ fn call<B: RoadBook>(
     Ok(working.step(step)?)
 }
 
-// Runs a line. The inner result is the line's own: a refused line changes nothing.
+// Runs a line. The inner result is the line's own: a refused line changes nothing, and want of memory ends the program.
 pub(crate) fn run_line<B: RoadBook>(
     heap: Global,
     working: &mut Working<'_, B>,

@@ -33,7 +33,8 @@ fn after_step<B: RoadBook>(working: &Working<'_, B>) -> Said
     }
 }
 
-// Runs a line and says what took place.
+// Runs a line and says what took place. The heap and the working go side by side: a struct of both would put a name
+// before each clause and take none away.
 fn mark_line<B: RoadBook>(
     heap: Global,
     working: &mut Working<'_, B>,
@@ -65,7 +66,8 @@ fn mark_lines<B: RoadBook>(
     Ok(out)
 }
 
-// Reads the plan, lays a working over its sheet with its budget, and runs the lines of the input. What is printed is given back.
+// Reads the plan, lays a working over its sheet with its budget, and runs the lines of the input. What is printed is
+// given back.
 pub fn mark(heap: Global, file: &[u8], input: &[u8]) -> Result<String, AllocError>
     ensures { IfOk result (λ s. Prints file.now input.now (string_bytes s)) }
 {

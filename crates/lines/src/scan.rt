@@ -8,7 +8,8 @@ pub(crate) enum Scan {
     Inside(u16),
 }
 
-// What a byte does: it breaks the rule, it goes on, or it ends a number.
+// What a byte does: it breaks the rule, it goes on, or it ends a number. As `Option<(Option<u16>, Scan)>` the three would
+// have no names.
 #[derive(Clone, Copy)]
 pub(crate) enum Turn {
     Breaks,

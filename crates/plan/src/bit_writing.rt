@@ -6,6 +6,7 @@ ghost use Rattle.plan.specs.Writes.{Room, Wrote};
 use crate::bit_writer::BitWriter;
 
 impl<'a> BitWriter<'a> {
+    // The bit is a number, 0 or 1, as the layout has it.
     fn bit(&mut self, bit: u8)
         requires one { bit < 2 }
         requires room { Room self.old 1 }

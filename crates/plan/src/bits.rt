@@ -18,6 +18,7 @@ impl<'a> BitReader<'a> {
         BitReader { bytes, at: 0 }
     }
 
+    // A number, 0 or 1: the layout adds and multiplies bits.
     fn bit(&self, i: usize) -> u16
         requires { i < 8 * length self.now.bytes.now }
         ensures { result ≡ bit_at self.now.bytes.now i }
@@ -36,7 +37,8 @@ impl<'a> BitReader<'a> {
         Ok(())
     }
 
-    // The number in the next `width` bits, which are then behind the place.
+    // The number in the next `width` bits, which are then behind the place. The bytes are the same on a refusal too,
+    // where no place is promised.
     pub(crate) fn field(&mut self, width: usize) -> Result<u16, BitsFault>
         requires narrow { width ≤ 16 }
         requires early { self.old.at < 2 ^ 32 }

@@ -9,6 +9,7 @@ use crate::fault::{BitsFault, PlanFault};
 use crate::header::Header;
 use crate::shape::Plan;
 
+// Written out, since proofs of `?` read `from_gives`.
 impl From<BitsFault> for PlanFault {
     ghost from_gives = { λ e r. r ≡ Bits e };
 

@@ -3,7 +3,8 @@ ghost use Rattle.plan.specs.Shape.{Counted, Paired, Rooted, Stored, Unpaired};
 
 // A tree of terms, the pairs of terms to separate, and a budget: an instance of Multicut in Trees.
 // Terms are numbered from 0, the root. The link of a term is the tree edge to its broader term, its
-// parent, and bears the term's number. Places that no term or pair uses are zero.
+// parent, and bears the term's number. Places that no term or pair uses are zero. The arrays lie in fixed memory; the
+// three numbers are fields here as in a header, since the invariant and the definitions of files name them.
 #[derive(Clone, Copy)]
 pub struct Plan {
     // how many terms, 1 to 256

@@ -29,7 +29,7 @@ impl Plan {
         self.budget
     }
 
-    // The two terms of a pair, the smaller first; 0 and 0 for what is no pair.
+    // The two terms of a pair, the smaller first; 0 and 0 for what is no pair, as a road-book answers no, 0 or absent.
     pub fn ends(&self, pair: u16) -> (u16, u16)
         ensures { (result.0 ≡ (ends_of self.now pair).0) × (result.1 ≡ (ends_of self.now pair).1) }
     {
@@ -37,7 +37,7 @@ impl Plan {
         (u16::from(first), u16::from(second))
     }
 
-    // The broader term of a term; 0 for term 0 and for what is no term.
+    // The broader term of a term; 0 for term 0 and for what is no term, as above.
     pub fn broader(&self, term: u16) -> u16
         ensures value { result ≡ broader_of self.now term }
         ensures falls { 0 < term → result < term }

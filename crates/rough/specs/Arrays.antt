@@ -1,5 +1,6 @@
 -- What the arrays of a run say.
---     held xs            the set that an array of marks has
+--     held xs            the set that an array of marks has; a type of marks could not be seen as one, since no model's value is a
+--                        function
 --     numbered xs        the numbers of an array, 0 behind it
 use Rattle.std.specs.Prelude.{ℕ, Bool, false, List, slice_index, slice_index_or}
 use Rattle.cuts.specs.Links.{Links}

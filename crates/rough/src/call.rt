@@ -1,4 +1,5 @@
 // The rough cut of a book.
+// An index is widened by `as`: `usize::from` would be longer there, and no plainer.
 ghost use Rattle.std.specs.Prelude.{◌≡◌, ◌+◌, ◌≤◌, length};
 ghost use Rattle.rough.specs.Arrays.{held};
 ghost use Rattle.rough.specs.Outcome.{answer, fitted, laid, roomy_answer};
@@ -11,7 +12,7 @@ use crate::run::go_through;
 use arrayvec::ArrayVec;
 use book::RoadBook;
 
-// The chosen links, rising.
+// The chosen links, rising. A loop, since the vector's `extend` answers a `Result` that is never an `Err`.
 fn links_in(chosen: &[bool; 256], highest: u16) -> ArrayVec<u16, 256>
     requires { highest ≤ 255 }
     ensures { result.items ≡ rising (held chosen.now) (highest + 1) }

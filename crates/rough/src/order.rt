@@ -1,4 +1,5 @@
 // Which of the pairs that are left comes first.
+// An index is widened by `as`: `usize::from` would be longer there, and no plainer.
 ghost use Rattle.std.specs.Prelude.{◌≡◌, ℕ, ◌<◌, ◌≤◌, length, Some};
 ghost use Rattle.book.specs.Meaning.{rank_at};
 ghost use Rattle.rough.specs.Arrays.{held, numbered};
@@ -8,7 +9,7 @@ use book::RoadBook;
 use std::array;
 use std::cmp::Reverse;
 
-// The rank of each pair, asked once.
+// The rank of each pair, asked once. One function for this and the next would take a closure and save nothing.
 pub(crate) fn ranks_of<B: RoadBook>(book: &B) -> [u16; 256]
     ensures { (p : ℕ) → numbered result p ≡ rank_at (B.meaning book.now) p }
 {

@@ -1,4 +1,5 @@
 // What a rough cut asks of the roads of a book.
+// An index is widened by `as`: `usize::from` would be longer there, and no plainer.
 ghost use Rattle.book.specs.Posed.{posed};
 ghost use Rattle.cuts.specs.Search.{meets};
 ghost use Rattle.rough.specs.Arrays.{held};

@@ -1,4 +1,5 @@
 // Goes through the open pairs in their order.
+// An index is widened by `as`: `usize::from` would be longer there, and no plainer.
 ghost use Rattle.std.specs.Prelude.{◌≡◌, ◌<◌, true, [], ◌∷◌, ◌++◌, length, if◌then◌else◌};
 ghost use Rattle.book.specs.Meaning.{leg_of, link_at};
 ghost use Rattle.book.specs.Posed.{posed};
@@ -19,6 +20,7 @@ fn top_link<B: RoadBook>(book: &B, pair: u16, leg: Leg) -> Option<u16>
     book.link_at(pair, leg, 0)
 }
 
+// Pairs are asked by number, so an open pair has no type of its own, here and in the next two.
 fn choose_top<B: RoadBook>(book: &B, chosen: &mut [bool; 256], pair: u16, leg: Leg)
     requires { (B.meaning book.now).opened pair ≡ true }
     ensures { held chosen.new ≡ union (held chosen.old) (top (leg_of (B.meaning book.now) leg pair)) }
@@ -56,7 +58,8 @@ fn take_up<B: RoadBook>(
     choose_tops(book, chosen, pair);
 }
 
-// The links chosen and the pairs written down, once all open pairs are gone through.
+// The links chosen and the pairs written down, once all open pairs are gone through. The ranks stay while what is left
+// changes, so they are two arrays; a list sorted once would be a third.
 pub(crate) fn go_through<B: RoadBook>(book: &B) -> ([bool; 256], ArrayVec<u16, 256>)
     ensures { gone_by result.0 result.1.items ≡ gone (B.meaning book.now) }
 {

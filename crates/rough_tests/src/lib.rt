@@ -52,6 +52,7 @@ mod tests {
         assert_eq!(rt; apart, [9]);
     }
 
+    // The first two cases over the sheet. One function over both books would take an `Abort` bound, which no function gains.
     #[test]
     fn both_books_are_cut_alike(rt: HostRuntime) {
         let mut plan = Plan::fresh();

@@ -1,4 +1,5 @@
-// Which links several pairs may have in common.
+// Which links several pairs may have in common. An enum and no closure, which would put a `requires` on a public
+// function.
 
 #[derive(Clone, Copy, PartialEq, Eq, Debug)]
 pub enum Common {

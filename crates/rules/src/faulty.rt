@@ -19,7 +19,8 @@ pub fn is_among(number: u16, others: &[u16]) -> bool
     others.contains(&number)
 }
 
-// The first listed pair that repeats one of those in front or one listed before it.
+// The first listed pair that repeats one of those in front or one listed before it. The project fixes this loop with
+// the index.
 pub fn first_repeat(front: &[u16], pairs: &[u16]) -> Option<u16>
     ensures { result ≡ first_repeat front.now pairs.now }
 {

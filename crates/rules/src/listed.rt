@@ -41,7 +41,8 @@ fn each_shares_only<B: RoadBook>(book: &B, common: Common, pairs: &[u16], q: u16
         .all(|pair| two_share_only(book, common, *pair, q))
 }
 
-// Any two of the listed pairs share no link but those that they may have in common.
+// Any two of the listed pairs share no link but those that they may have in common. The project fixes this loop with
+// the index.
 pub fn share_only<B: RoadBook>(book: &B, common: Common, pairs: &[u16]) -> bool
     ensures { result ≡ pairwise (share_only (posed (B.meaning book.now)) common) pairs.now }
 {

@@ -1,4 +1,5 @@
 // What the marks of a tally become.
+// An index is widened by `as`: `usize::from` would be longer there, and no plainer.
 ghost use Rattle.std.specs.Prelude.{◌≡◌, ◌<◌, false, ◌||◌, slice_index_or};
 ghost use Rattle.book.specs.Posed.{posed};
 ghost use Rattle.working.specs.Marking.{cut_link, drop_pair, end_none, weld_link};
@@ -9,6 +10,7 @@ use crate::working::Working;
 use book::RoadBook;
 use std::array;
 
+// Each number is below 256, which the check shows at each call; a `u8` would put a cast there.
 impl Tally {
     pub(crate) fn weld(mut self, link: u16) -> Self
         requires { link < 256 }

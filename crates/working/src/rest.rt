@@ -1,4 +1,5 @@
 // The rest of a working is a road-book again.
+// An index is widened by `as`: `usize::from` would be longer there, and no plainer.
 ghost use Rattle.working.specs.Rest.{rest};
 ghost use Rattle.working.specs.Lawful.{rest_lawful};
 

@@ -9,7 +9,7 @@ use crate::working::Working;
 use book::RoadBook;
 
 impl<'a, B: RoadBook> Working<'a, B> {
-    // The tally after a step, or the first refusal that meets it.
+    // The tally after a step, or the first refusal that meets it. The project fixes this match on the state and the step.
     fn judge(&self, step: Step) -> Result<Tally, WorkingFault>
         ensures { result ≡ judged (B.meaning self.now.book.now) self.now.tally (rule_of step.entry) }
     {

@@ -22,7 +22,7 @@ pub struct Tally {
     pub links: [LinkMark; 256],
     // whether each pair has been dropped: it need not be separated any more
     pub dropped: [bool; 256],
-    // the entry number of each link that has one
+    // the entry number of each link that has one; the project keeps entries apart from marks
     pub entries: [Option<u16>; 256],
     // how many links may still be cut
     pub left: u8,
