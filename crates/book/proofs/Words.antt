@@ -11,7 +11,7 @@ use Rattle.std.specs.Int.{from_bool}
 use Rattle.book.specs.Sheets.{Filled, bit_in, bits_from, first_test, road_test}
 use Rattle.book.specs.declared.sheet.Sheet.{Sheet}
 
-bit_lt : (b : Bool) → from_bool b < 2
+pub bit_lt : (b : Bool) → from_bool b < 2
 bit_lt true = omega arith
 bit_lt false = omega arith
 
@@ -19,11 +19,11 @@ pub bits_none : (f : ℕ → Bool) (l : ℕ) → bits_from f l 0 ≡ 0
 unfolding bits_from
 bits_none f l = refl
 
-bits_more : (f : ℕ → Bool) (l n : ℕ) → bits_from f l (suc n) ≡ bits_from f (l + 1) n * 2 + from_bool (f l)
+pub bits_more : (f : ℕ → Bool) (l n : ℕ) → bits_from f l (suc n) ≡ bits_from f (l + 1) n * 2 + from_bool (f l)
 unfolding bits_from
 bits_more f l n = refl
 
-bit_at_lem : (f : ℕ → Bool) (j n l : ℕ) → j < n → bits_from f l n / 2 ^ j % 2 ≡ from_bool (f (l + j))
+pub bit_at_lem : (f : ℕ → Bool) (j n l : ℕ) → j < n → bits_from f l n / 2 ^ j % 2 ≡ from_bool (f (l + j))
 bit_at_lem f j zero l h = absurd (omega arith)
 bit_at_lem f zero (suc n) l h =
     let e : l + 0 ≡ l = omega arith in
@@ -36,7 +36,7 @@ bit_at_lem f (suc j) (suc n) l h =
     ap (λ k. bits_from f l (suc n) / 2 ^ k % 2) (sym e) ∙ ap (λ x. x % 2) (sym (shr-shr (bits_from f l (suc n)) 1 j)) ∙
     ap (λ x. x / 2 ^ j % 2) half ∙ bit_at_lem f j n (l + 1) (omega arith) ∙ ap (λ k. from_bool (f k)) moved
 
-bit_in_lem : (f : ℕ → ℕ → Bool) (ws : List ℕ) (q l : ℕ) → Filled f ws → q < 256 → l < 256 → bit_in ws q l ≡ from_bool (f q l)
+pub bit_in_lem : (f : ℕ → ℕ → Bool) (ws : List ℕ) (q l : ℕ) → Filled f ws → q < 256 → l < 256 → bit_in ws q l ≡ from_bool (f q l)
 bit_in_lem f ws q l filled hq hl =
     let k = q * 4 + l / 64 in
     let row : k / 4 ≡ q = div-mul-add q 4 (l / 64) (omega arith) in
@@ -65,7 +65,7 @@ bit_test : (b : Bool) → eqb (from_bool b) 1 ≡ b
 bit_test true = refl
 bit_test false = refl
 
-set_is : (f : ℕ → ℕ → Bool) (ws : List ℕ) (q l : ℕ) → Filled f ws → q < 256 → l < 256 → eqb (bit_in ws q l) 1 ≡ f q l
+pub set_is : (f : ℕ → ℕ → Bool) (ws : List ℕ) (q l : ℕ) → Filled f ws → q < 256 → l < 256 → eqb (bit_in ws q l) 1 ≡ f q l
 set_is f ws q l filled hq hl = ap (λ x. eqb x 1) (bit_in_lem f ws q l filled hq hl) ∙ bit_test (f q l)
 
 module _ (s : Sheet) (q l : ℕ) (hq : q < 256) (hl : l < 256) where

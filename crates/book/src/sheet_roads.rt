@@ -1,6 +1,6 @@
 // The sheet as a road-book.
 // An index is widened by `as`: `usize::from` would be longer there, and no plainer.
-ghost use Rattle.std.specs.Prelude.{◌≡◌, ◌==◌};
+ghost use Rattle.std.specs.Prelude.{◌≡◌, ◌<◌, ◌==◌};
 ghost use Rattle.book.specs.Sheets.{bit_in, first_test, leg_test};
 ghost use Rattle.book.specs.Tells.{Tells};
 ghost use Rattle.book.specs.Told.{told, told_lawful};
@@ -12,8 +12,10 @@ use crate::road_book::RoadBook;
 use crate::sheet::Sheet;
 use plan::Plan;
 
-// Whether the bit of a pair and a link is set: one word and one bit.
-fn is_set(words: &[u64; 1024], pair: u8, link: u8) -> bool
+// Whether the bit of a pair and a link is set: one word and one bit. Bytes in place of the two numbers would be widened
+// again at each question, and cost a fifth more.
+fn is_set(words: &[u64; 1024], pair: u16, link: u16) -> bool
+    requires { (pair < 256) × (link < 256) }
     ensures { result ≡ (bit_in words.now pair link == 1) }
 {
     (words[pair as usize * 4 + link as usize / 64] >> (link % 64)) % 2 == 1
@@ -48,10 +50,10 @@ impl Sheet {
     fn is_on_leg(&self, pair: u8, leg: Leg, link: u8) -> bool
         ensures { result ≡ leg_test self.now.plan leg pair link }
     {
-        let on_first = is_set(&self.firsts, pair, link);
+        let (pair, link) = (u16::from(pair), u16::from(link));
         match leg {
-            Leg::First => on_first,
-            Leg::Second => is_set(&self.roads, pair, link) && !on_first,
+            Leg::First => is_set(&self.firsts, pair, link),
+            Leg::Second => is_set(&self.roads, pair, link) && !is_set(&self.firsts, pair, link),
         }
     }
 }
@@ -86,7 +88,7 @@ impl RoadBook for Sheet {
 
     #[tactic(auto, using(crate::proofs::Words::road_set))]
     fn on_road(&self, link: u16, pair: u16) -> bool {
-        self.is_live(link) && self.is_open(pair) && is_set(&self.roads, pair as u8, link as u8)
+        self.is_live(link) && self.is_open(pair) && is_set(&self.roads, pair, link)
     }
 
     // The links of a leg rise, so they are found by going through the pair's row.

@@ -6,6 +6,7 @@
 --     above_root       nothing lies above term 0
 --     climb_root       the climb from term 0 has no link
 --     climb_more       the climb from a term is its own link, and the climb from its broader term
+--     climb_on         the same, where the link and the next term are told by number
 --     climb_found      the first link that is not larger than a given one is that one where it lies above
 --     climb_yields     a climb that is asked for its links gives those
 --     climb_place      what stands at a place of the climb, counted from the other end of the way
@@ -59,6 +60,10 @@ module _ (up : ℕ → ℕ) (falls : Falls up) where
 
   pub climb_more : (t : ℕ) → 0 < t → links_up up t ≡ t ∷ links_up up (up t)
   climb_more t pos = ap reverse (way_more up falls t pos) ∙ reverse-append (way up (up t)) (t ∷ [])
+
+  -- the same, where one goes on from that term's number
+  pub climb_on : (t link next : ℕ) → t ≡ link → 0 < link → next ≡ up link → links_up up t ≡ link ∷ links_up up next
+  climb_on t link next same pos on = ap (links_up up) same ∙ climb_more link pos ∙ ap (λ u. link ∷ links_up up u) (sym on)
 
   pub climb_found : (x t : ℕ) → option_eq eqb (find (λ y. leb y x) (links_up up t)) (Some x) ≡ among x (way up t)
   climb_found x =

@@ -10,14 +10,14 @@ use Rattle.std.proofs.lemmas.List.{length-append, length-set}
 use Rattle.plan.specs.Writes.{put_bit, put_bits, Room, Wrote}
 use Rattle.plan.specs.declared.bit_writer.BitWriter.{BitWriter}
 
-put_append : (bs : List ℕ) (i : ℕ) (xs ys : List ℕ) → put_bits bs i (xs ++ ys) ≡ put_bits (put_bits bs i xs) (i + length xs) ys
+pub put_append : (bs : List ℕ) (i : ℕ) (xs ys : List ℕ) → put_bits bs i (xs ++ ys) ≡ put_bits (put_bits bs i xs) (i + length xs) ys
 unfolding put_bits
 put_append bs i [] ys = ap (λ k. put_bits bs k ys) (sym (add-zero i))
 put_append bs i (x ∷ xs) ys =
     let e : i + 1 + length xs ≡ i + length (x ∷ xs) = omega arith in
     put_append (put_bit bs i x) (i + 1) xs ys ∙ ap (λ k. put_bits (put_bits (put_bit bs i x) (i + 1) xs) k ys) e
 
-length_put : (bs : List ℕ) (i : ℕ) (bits : List ℕ) → length (put_bits bs i bits) ≡ length bs
+pub length_put : (bs : List ℕ) (i : ℕ) (bits : List ℕ) → length (put_bits bs i bits) ≡ length bs
 unfolding put_bits
 length_put bs i [] = refl
 length_put bs i (b ∷ rest) = length_put (put_bit bs i b) (i + 1) rest ∙ length-set bs (i / 8) _

@@ -10,7 +10,7 @@ use Rattle.std.proofs.lemmas.Nat.{one_shl}
 use Rattle.std.proofs.lemmas.Bool.{cases_lt, cond-true, cond-false, le-leb, lt-leb}
 use Rattle.plan.specs.Layout.{width_for, width_from}
 
-shl_is : (w : ℕ) → w < 8 → (1 * 2 ^ w) % 2 ^ 16 ≡ 2 ^ w
+pub shl_is : (w : ℕ) → w < 8 → (1 * 2 ^ w) % 2 ^ 16 ≡ 2 ^ w
 shl_is w h = one_shl w 16 (omega arith)
 
 -- `more` widths are left to try, from w on

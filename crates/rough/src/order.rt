@@ -24,24 +24,12 @@ pub(crate) fn open_pairs<B: RoadBook>(book: &B) -> [bool; 256]
     array::from_fn(|pair| book.is_open(pair as u16))
 }
 
-// A pair with its rank, which comes before another by falling rank, at equal ranks by rising number.
-#[derive(Clone, Copy, PartialEq, Eq, PartialOrd, Ord)]
-struct Ranked {
-    rank: Reverse<u16>,
-    pair: u16,
-}
-
-// The first in the order among the pairs left.
+// The first in the order among the pairs left. Of equal ranks the first is kept, which has the lowest number.
 pub(crate) fn first_left(ranks: &[u16; 256], left: &[bool; 256], pairs: u16) -> Option<u16>
     requires { pairs ≤ 256 }
     ensures { result ≡ first_of (earlier (numbered ranks.now)) (held left.now) pairs }
 {
     (0..pairs)
         .filter(|pair| left[*pair as usize])
-        .map(|pair| Ranked {
-            rank: Reverse(ranks[pair as usize]),
-            pair,
-        })
-        .min()
-        .map(|first| first.pair)
+        .min_by_key(|pair| Reverse(ranks[*pair as usize]))
 }

@@ -2,10 +2,10 @@
 --     length_drops    as many marks as before
 --     dropped_here    a pair that passes the test is dropped
 --     dropped_not     and one that does not stays as it was
---     drops_are       so an array that says this of each place has the marks after the cut
-use Rattle.std.proofs.Common.{◌≡◌, ℕ, zero, suc, ◌<◌, ◌≤◌, Bool, true, false, ◌||◌, ◌≢◌, List, length, get_or, set, sym, refl, ap, ◌∙◌, ⊎_elim, arith}
-use mathlib.Core.Bool.{or-false, or-true}
-use Rattle.std.proofs.lemmas.List.{ext_get_or, get_or-set_other, get_or-set_same, length-set}
+--     drop_more       one pair more, that is dropped
+--     drop_past       and one that stays
+use Rattle.std.proofs.Common.{◌≡◌, ℕ, zero, suc, ◌+◌, ◌<◌, ◌≤◌, Bool, true, false, ◌≢◌, List, length, get_or, set, sym, refl, ap, ◌∙◌, ⊎_elim, add-one, arith}
+use Rattle.std.proofs.lemmas.List.{get_or-set_other, get_or-set_same, length-set}
 use Rattle.std.proofs.lemmas.Bool.{both_ways, cases_Bool, cases_eq, cond-false, cond-true}
 use Rattle.working.specs.Marking.{drop_where}
 
@@ -43,13 +43,10 @@ dropped_not f (suc n) ds p e =
     (λ t. ap (λ xs. get_or xs p false) (cond-false (f n) (set (drop_where f n ds) n true) (drop_where f n ds) t) ∙ dropped_not f n ds p e)
     (cases_Bool (f n))
 
-pub drops_are :
-    (f : ℕ → Bool) (n : ℕ) (ds xs : List Bool) → n ≤ length ds → length xs ≡ length ds → ((k : ℕ) → f k ≡ true → k < n) →
-    ((k : ℕ) → k < length ds → get_or xs k false ≡ (get_or ds k false || f k)) → xs ≡ drop_where f n ds
-drops_are f n ds xs fits long inner each =
-    ext_get_or false xs (drop_where f n ds) (long ∙ sym (length_drops f n ds)) (λ k h.
-    each k (omega (arith, long)) ∙
-    ⊎_elim
-    (λ t. ap (λ b. get_or ds k false || b) t ∙ or-true (get_or ds k false) ∙ sym (dropped_here f n ds k fits (inner k t) t))
-    (λ t. ap (λ b. get_or ds k false || b) t ∙ or-false (get_or ds k false) ∙ sym (dropped_not f n ds k t))
-    (cases_Bool (f k)))
+-- one pair more: a pair whose road passes the link is dropped, and one whose road does not stays
+module _ (f : ℕ → Bool) (p : ℕ) (ds : List Bool) where
+  pub drop_more : f p ≡ true → drop_where f (p + 1) ds ≡ set (drop_where f p ds) p true
+  drop_more e = rw (add-one p) (cond-true (f p) (set (drop_where f p ds) p true) (drop_where f p ds) e)
+
+  pub drop_past : f p ≡ false → drop_where f (p + 1) ds ≡ drop_where f p ds
+  drop_past e = rw (add-one p) (cond-false (f p) (set (drop_where f p ds) p true) (drop_where f p ds) e)

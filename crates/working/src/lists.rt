@@ -1,11 +1,10 @@
-// Steps on listed pairs, one more than is left: the tally after a step, or the first refusal that meets it.
+// Steps on listed pairs, one more than is left, each marked in place once every check has passed.
 ghost use Rattle.std.specs.Prelude.{◌≡◌, ◌+◌, MatchResult};
 ghost use Rattle.cuts.specs.Steps.{common_factor, disjoint_pairs, overloaded_link};
-ghost use Rattle.working.specs.Judging.{check_list_in, ruled_in, Judgement};
+ghost use Rattle.working.specs.Judging.{check_list_in, ruled_in, Judgement, Outcome};
 
 use crate::checks::check;
 use crate::fault::WorkingFault;
-use crate::tally::Tally;
 use crate::working::Working;
 use book::RoadBook;
 use rules::{Common, all_pass, first_closed, first_repeat, share_only};
@@ -31,8 +30,9 @@ impl<'a, B: RoadBook> Working<'a, B> {
         Ok(())
     }
 
-    pub(crate) fn common_factor(&self, pair: u16, pairs: &[u16]) -> Result<Tally, WorkingFault>
-        ensures { result ≡ ruled_in (B.meaning self.now.book.now) self.now.tally (common_factor pair pairs.now) }
+    pub(crate) fn common_factor(&mut self, pair: u16, pairs: &[u16]) -> Result<(), WorkingFault>
+        ensures outcome { Outcome (ruled_in (B.meaning self.old.book.now) self.old.tally (common_factor pair pairs.now)) self.old.tally result self.new.tally }
+        ensures keeps { self.new.book ≡ self.old.book }
     {
         check(
             pairs.len() == self.one_too_many(),
@@ -44,11 +44,13 @@ impl<'a, B: RoadBook> Working<'a, B> {
             share_only(self, Common::RoadOf(pair), pairs),
             WorkingFault::RuleFails(pair),
         )?;
-        Ok(self.tally.drop_pair(pair))
+        self.tally.drop_pair(pair);
+        Ok(())
     }
 
-    pub(crate) fn overloaded_link(&self, link: u16, pairs: &[u16]) -> Result<Tally, WorkingFault>
-        ensures { result ≡ ruled_in (B.meaning self.now.book.now) self.now.tally (overloaded_link link pairs.now) }
+    pub(crate) fn overloaded_link(&mut self, link: u16, pairs: &[u16]) -> Result<(), WorkingFault>
+        ensures outcome { Outcome (ruled_in (B.meaning self.old.book.now) self.old.tally (overloaded_link link pairs.now)) self.old.tally result self.new.tally }
+        ensures keeps { self.new.book ≡ self.old.book }
     {
         check(
             pairs.len() == self.one_too_many(),
@@ -61,11 +63,13 @@ impl<'a, B: RoadBook> Working<'a, B> {
             all_pass(self, link, pairs) && share_only(self, Common::Link(link), pairs),
             WorkingFault::RuleFails(link),
         )?;
-        Ok(self.cut(link))
+        self.cut(link);
+        Ok(())
     }
 
-    pub(crate) fn disjoint_pairs(&self, pairs: &[u16]) -> Result<Tally, WorkingFault>
-        ensures { result ≡ ruled_in (B.meaning self.now.book.now) self.now.tally (disjoint_pairs pairs.now) }
+    pub(crate) fn disjoint_pairs(&mut self, pairs: &[u16]) -> Result<(), WorkingFault>
+        ensures outcome { Outcome (ruled_in (B.meaning self.old.book.now) self.old.tally (disjoint_pairs pairs.now)) self.old.tally result self.new.tally }
+        ensures keeps { self.new.book ≡ self.old.book }
     {
         check(
             pairs.len() == self.one_too_many(),
@@ -76,6 +80,7 @@ impl<'a, B: RoadBook> Working<'a, B> {
             share_only(self, Common::Nothing, pairs),
             WorkingFault::RuleFails(pairs[0]),
         )?;
-        Ok(self.tally.end_none())
+        self.tally.end_none();
+        Ok(())
     }
 }

@@ -1,6 +1,6 @@
 // What the marks of a tally become.
 // An index is widened by `as`: `usize::from` would be longer there, and no plainer.
-ghost use Rattle.std.specs.Prelude.{◌≡◌, ◌<◌, false, ◌||◌, slice_index_or};
+ghost use Rattle.std.specs.Prelude.{◌≡◌, ◌<◌};
 ghost use Rattle.book.specs.Posed.{posed};
 ghost use Rattle.working.specs.Marking.{cut_link, drop_pair, end_none, weld_link};
 ghost use Rattle.working.specs.Rest.{rest};
@@ -8,54 +8,47 @@ ghost use Rattle.working.specs.Rest.{rest};
 use crate::tally::{LinkMark, State, Tally};
 use crate::working::Working;
 use book::RoadBook;
-use std::array;
 
 // Each number is below 256, which the check shows at each call; a `u8` would put a cast there.
 impl Tally {
-    pub(crate) fn weld(mut self, link: u16) -> Self
+    pub(crate) fn weld(&mut self, link: u16)
         requires { link < 256 }
-        ensures { result ≡ weld_link link self }
+        ensures { self.new ≡ weld_link link self.old }
     {
         self.links[link as usize] = LinkMark::Welded;
-        self
     }
 
-    pub(crate) fn drop_pair(mut self, pair: u16) -> Self
+    pub(crate) fn drop_pair(&mut self, pair: u16)
         requires { pair < 256 }
-        ensures { result ≡ drop_pair pair self }
+        ensures { self.new ≡ drop_pair pair self.old }
     {
         self.dropped[pair as usize] = true;
-        self
     }
 
-    pub(crate) fn end_none(mut self) -> Self
-        ensures { result ≡ end_none self }
+    pub(crate) fn end_none(&mut self)
+        ensures { self.new ≡ end_none self.old }
     {
         self.state = State::NoCut;
-        self
     }
 }
 
 impl<'a, B: RoadBook> Working<'a, B> {
-    // Whether a pair has been dropped, or would be by cutting a link.
-    fn is_dropped_by(&self, link: u16, pair: u16) -> bool
-        requires { pair < 256 }
-        ensures { result ≡ (slice_index_or self.now.tally.dropped pair false || (posed (rest (B.meaning self.now.book.now) self.now.tally)).on link pair) }
-    {
-        self.tally.dropped[pair as usize] || self.on_road(link, pair)
-    }
-
-    // The tally with a link cut: every open pair whose road passes it is dropped.
-    pub(crate) fn cut(&self, link: u16) -> Tally
+    // Cuts a link: every open pair whose road passes it is dropped. A loop over the pairs that the book has: an array made
+    // anew is filled at all 256 places, however few they are.
+    pub(crate) fn cut(&mut self, link: u16)
         requires link { link < 256 }
-        requires left { 0 < self.now.tally.left }
-        ensures { result ≡ cut_link (posed (rest (B.meaning self.now.book.now) self.now.tally)) link self.now.tally }
+        requires left { 0 < self.old.tally.left }
+        ensures tallies { self.new.tally ≡ cut_link (posed (rest (B.meaning self.old.book.now) self.old.tally)) link self.old.tally }
+        ensures keeps { self.new.book ≡ self.old.book }
     {
-        let dropped = array::from_fn(|pair| self.is_dropped_by(link, pair as u16));
-        let mut tally = self.tally;
-        tally.links[link as usize] = LinkMark::Cut;
-        tally.dropped = dropped;
-        tally.left -= 1;
-        tally
+        let mut dropped = self.tally.dropped;
+        for pair in 0..self.pairs() {
+            if self.on_road(link, pair) {
+                dropped[pair as usize] = true;
+            }
+        }
+        self.tally.dropped = dropped;
+        self.tally.links[link as usize] = LinkMark::Cut;
+        self.tally.left -= 1;
     }
 }

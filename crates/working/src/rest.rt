@@ -3,6 +3,7 @@
 ghost use Rattle.working.specs.Rest.{rest};
 ghost use Rattle.working.specs.Lawful.{rest_lawful};
 
+use crate::tally::LinkMark;
 use crate::working::Working;
 use book::{Leg, RoadBook};
 
@@ -20,7 +21,7 @@ impl<'a, B: RoadBook> RoadBook for Working<'a, B> {
     }
 
     fn is_live(&self, link: u16) -> bool {
-        self.book.is_live(link) && self.is_unmarked(link)
+        self.book.is_live(link) && matches!(self.tally.links[link as usize], LinkMark::Unmarked)
     }
 
     fn is_open(&self, pair: u16) -> bool {

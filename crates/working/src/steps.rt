@@ -4,14 +4,16 @@ ghost use Rattle.std.specs.Prelude.{◌≡◌};
 
 use crate::fault::WorkingFault;
 use crate::step::Step;
-use crate::tally::{State, Tally};
+use crate::tally::State;
 use crate::working::Working;
 use book::RoadBook;
 
 impl<'a, B: RoadBook> Working<'a, B> {
-    // The tally after a step, or the first refusal that meets it. The project fixes this match on the state and the step.
-    fn judge(&self, step: Step) -> Result<Tally, WorkingFault>
-        ensures { result ≡ judged (B.meaning self.now.book.now) self.now.tally (rule_of step.entry) }
+    // Makes a step where its rule admits it. A refused step changes nothing. The project fixes this match on the state and
+    // the step.
+    pub fn step(&mut self, step: Step) -> Result<(), WorkingFault>
+        ensures outcome { Outcome (judged (B.meaning self.old.book.now) self.old.tally (rule_of step.entry)) self.old.tally result self.new.tally }
+        ensures keeps { self.new.book ≡ self.old.book }
     {
         match (self.tally.state, step) {
             (State::Open, Step::IdleLink(link)) => self.idle_link(link),
@@ -23,14 +25,5 @@ impl<'a, B: RoadBook> Working<'a, B> {
             (State::Open, Step::DisjointPairs(pairs)) => self.disjoint_pairs(pairs),
             (State::NoCut | State::Parted, _) => Err(WorkingFault::Ended),
         }
-    }
-
-    // Makes a step where its rule admits it. A refused step changes nothing.
-    pub fn step(&mut self, step: Step) -> Result<(), WorkingFault>
-        ensures outcome { Outcome (judged (B.meaning self.old.book.now) self.old.tally (rule_of step.entry)) self.old.tally result self.new.tally }
-        ensures keeps { self.new.book ≡ self.old.book }
-    {
-        self.tally = self.judge(step)?;
-        Ok(())
     }
 }
