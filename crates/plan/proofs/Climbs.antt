@@ -4,29 +4,28 @@
 --     above_past       a larger link does not lie above a term
 --     above_self       a term's own link does
 --     above_root       nothing lies above term 0
+--     above_here       so a term lies above itself exactly when it is not 0
 --     climb_root       the climb from term 0 has no link
 --     climb_more       the climb from a term is its own link, and the climb from its broader term
 --     climb_on         the same, where the link and the next term are told by number
---     climb_found      the first link that is not larger than a given one is that one where it lies above
 --     climb_yields     a climb that is asked for its links gives those
 --     climb_place      what stands at a place of the climb, counted from the other end of the way
-use Rattle.std.proofs.Common.{◌≡◌, ℕ, ◌-◌, ◌<◌, true, false, ◌||◌, eqb, leb, List, [], ◌∷◌, ◌++◌, length, get_or, reverse, Some, sym, refl, ap, ◌∙◌, ⊎_elim, arith}
+use Rattle.std.proofs.Common.{◌≡◌, ℕ, ◌-◌, ◌<◌, true, false, not, ◌||◌, eqb, List, [], ◌∷◌, ◌++◌, length, get_or, reverse, Some, sym, refl, ap, ◌∙◌, ⊎_elim, arith}
 use mathlib.Core.Bool.{or-false}
-use Rattle.std.specs.List.{find, slice_get}
+use Rattle.std.specs.List.{slice_get}
 use Rattle.std.specs.Iterator.{YieldsFirst}
-use Rattle.std.specs.Option.{option_eq}
 use Rattle.std.proofs.lemmas.Iterator.{YieldsList}
 use Rattle.std.proofs.lemmas.Iterator.Consumers.{YieldsList-from_first}
 use Rattle.std.proofs.lemmas.List.{get_or-reverse, length-reverse, reverse-append}
 use Rattle.std.proofs.lemmas.Option.{slice_get-get_or}
 use Rattle.std.proofs.lemmas.List.Folds.{list_any-append}
-use Rattle.std.proofs.lemmas.Bool.{cases_Bool, cases_eq, cases_lt, eq-eqb, le-leb, lt-leb, ne_eqb, or_right}
+use Rattle.std.proofs.lemmas.Bool.{cases_Bool, cases_eq, cases_lt, eq-eqb, ne_eqb, or_right}
 use Rattle.plan.specs.Plans.{broader_of}
 use Rattle.plan.specs.Tree.{among, links_up, way, Falls}
 use Rattle.plan.specs.declared.climb.Climb.{Climb}
 use Rattle.plan.specs.declared.shape.Plan.{Plan}
 use Rattle.plan.proofs.Members.{among_at}
-use Rattle.plan.proofs.Ways.{climb, way_bounds, way_more, way_root}
+use Rattle.plan.proofs.Ways.{way_bounds, way_more, way_root}
 
 pub plan_falls : (p : Plan) → Falls (broader_of p)
 plan_falls p t pos =
@@ -55,6 +54,13 @@ module _ (up : ℕ → ℕ) (falls : Falls up) where
       ap (among x) (way_more up falls t (omega arith)) ∙ among_push x (way up (up t)) t ∙
       ap (λ b. among x (way up (up t)) || b) (ne_eqb x t (λ e. omega arith)) ∙ or-false (among x (way up (up t)))
 
+  pub above_here : (t : ℕ) → among t (way up t) ≡ not (eqb t 0)
+  above_here t =
+      ⊎_elim
+      (λ e. ap (λ s. among t (way up s)) e ∙ above_root t ∙ sym (ap not (eq-eqb t 0 e)))
+      (λ ne. above_self t (omega (arith, ne)) ∙ sym (ap not (ne_eqb t 0 ne)))
+      (cases_eq t 0)
+
   pub climb_root : links_up up 0 ≡ []
   climb_root = ap reverse (way_root up falls)
 
@@ -64,16 +70,6 @@ module _ (up : ℕ → ℕ) (falls : Falls up) where
   -- the same, where one goes on from that term's number
   pub climb_on : (t link next : ℕ) → t ≡ link → 0 < link → next ≡ up link → links_up up t ≡ link ∷ links_up up next
   climb_on t link next same pos on = ap (links_up up) same ∙ climb_more link pos ∙ ap (λ u. link ∷ links_up up u) (sym on)
-
-  pub climb_found : (x t : ℕ) → option_eq eqb (find (λ y. leb y x) (links_up up t)) (Some x) ≡ among x (way up t)
-  climb_found x =
-      climb up falls (λ t. option_eq eqb (find (λ y. leb y x) (links_up up t)) (Some x) ≡ among x (way up t))
-      (rw climb_root (sym (above_root x)))
-      (λ t pos below.
-      rw (climb_more t pos) (⊎_elim
-      (λ h. rw (lt-leb t x h) (below ∙ sym (above_climb x t h)))
-      (λ h. rw (le-leb t x h) (⊎_elim (λ e. rw e (eq-eqb x x refl ∙ sym (above_self x (omega arith)))) (λ ne. rw (ne_eqb t x ne) (sym (above_past x t (omega (arith, ne))))) (cases_eq t x)))
-      (cases_lt x t)))
 
   pub climb_place : (t k : ℕ) → k < length (way up t) → slice_get (links_up up t) (length (way up t) - 1 - k) ≡ slice_get (way up t) k
   climb_place t k h =

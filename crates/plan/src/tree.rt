@@ -58,8 +58,12 @@ impl Plan {
     pub fn is_above(&self, link: u16, term: u16) -> bool
         ensures { result ≡ among link (way (broader_of self.now) term) }
     {
-        // the links fall on the way up, so the first that is not larger decides
-        Climb::new(self, term).find(|higher| *higher <= link) == Some(link)
+        // the links fall on the way up; a loop, since the climb's `find` takes half as many instructions more
+        let mut higher = term;
+        while higher > link {
+            higher = self.broader(higher);
+        }
+        higher == link && link != 0
     }
 
     // The number of links from term 0 down to the turning term of two terms, their lowest common ancestor.

@@ -1,16 +1,29 @@
-use Rattle.std.proofs.Common.{eqb, leb, Some, rules, sym, ap, ◌∙◌}
-use Rattle.std.proofs.lemmas.Iterator.Adapters.{option_map_id}
-use Rattle.std.proofs.lemmas.Iterator.Search.{find_from_yields_List}
-use Rattle.std.specs.Option.{option_eq}
-use borrow.Author.Tests.{tests}
+use Rattle.std.proofs.Common.{◌<◌, sym, ap, ◌∙◌, arith}
+use Rattle.std.proofs.lemmas.Bool.{ne_eqb}
 use Rattle.plan.specs.Plans.{broader_of}
-use Rattle.plan.proofs.Climbs.{climb_found, climb_yields, plan_falls}
+use Rattle.plan.specs.Tree.{among, way}
+use Rattle.plan.proofs.Climbs.{above_climb, above_here, above_past, plan_falls}
 use Rattle.plan.proofs.shape.Plan.is_above.Goals as goal
 
-pub returns : goal.returns
-returns c =
+pub loop-higher-preserved : goal.loop-higher-preserved
+loop-higher-preserved c =
     let p = c.args.self.now in
     let up = broader_of p in
     let x = c.args.link in
-    let found = find_from_yields_List (λ y. leb y x) c.find.new.self _ c.find.result c.find.ensures.ran (climb_yields p c.args.term c.new.ensures.plan c.new.ensures.term) (λ y b q k. search (rules, tests)) in
-    c.eq.ensures ∙ ap (λ r. option_eq eqb r (Some x)) (sym (option_map_id _) ∙ found) ∙ climb_found up (plan_falls p) x c.args.term
+    ap (λ t. among x (way up t)) c.broader-higher.ensures.value ∙ sym (above_climb up (plan_falls p) x c.loop-higher.higher c.loop-higher-test.true) ∙ c.loop-higher.invariant
+
+pub returns-then-higher-link : goal.returns-then-higher-link
+returns-then-higher-link c =
+    let p = c.args.self.now in
+    let up = broader_of p in
+    let x = c.args.link in
+    sym (above_here up (plan_falls p) x) ∙ ap (λ t. among x (way up t)) (sym c.if-higher-link.true) ∙ c.loop-higher.invariant
+
+pub returns-else-higher-link : goal.returns-else-higher-link
+returns-else-higher-link c =
+    let p = c.args.self.now in
+    let up = broader_of p in
+    let x = c.args.link in
+    let ne = c.if-higher-link.false in
+    let less : c.loop-higher.higher < x = omega (arith, ne) in
+    ne_eqb c.loop-higher.higher x ne ∙ sym (above_past up (plan_falls p) x c.loop-higher.higher less) ∙ c.loop-higher.invariant
